@@ -1,0 +1,166 @@
+-- "Refused jobs": for each number of the table, the lowest place at which its row holds, and the first fault of a job.
+use Prim.Native.Nat.{ℕ, zero, suc, _+_, _*_, _^_}
+use mathlib.Core.List.{List, [], _∷_}
+use mathlib.Core.Bool.{Bool, true, false, not, _&&_, _||_}
+use mathlib.Core.Option.{Option, none, some}
+use lib.ListN.{length, take, drop}
+use lib.Dec.{ltb, leb, eqb}
+use Rattle.spec.specs.declared.Rec.{Rec}
+use Rattle.spec.specs.Basics.{when, orElse, isSome, among, firstOf, anyOf}
+use Rattle.spec.specs.Bytes.{byte, word, long, zeros}
+use Rattle.spec.specs.Key.{index, begins}
+use Rattle.spec.specs.File.{Page, File, pageAt, pagesInUse, findIn}
+use Rattle.spec.specs.Job.{maxDepth, maxCapacity, maxPages, maxOps, maxTurns, Header, headerSize, version, versionAt, gAt, cAt, limitAt, usedAt, opCountAt, turnCountAt, directoryOffsetAt, tableOffsetAt, opsOffsetAt, turnsOffsetAt, totalAt, recordSize, pageSize, directoryOffset, tableOffset, opsOffset, turnsOffset, total, entryPlace, pagePlace, recordPlace, opPlace, turnPlace, fileLength}
+use Rattle.spec.specs.Decode.{headerOf, fileOf, pageParts, opParts, turnParts, numberOf}
+
+unfoldable pub outside : ℕ → ℕ → ℕ → Bool
+outside least most n = ltb n least || ltb most n
+
+-- 1 short: "under 32 bytes; place is the length"
+unfoldable pub short : List ℕ → Option ℕ
+short b = when (ltb (length b) headerSize) (length b)
+
+-- 2 version: "not 1". "and 0 for 2"
+unfoldable pub wrongVersion : List ℕ → Option ℕ
+wrongVersion b = when (not (eqb (word b versionAt) version)) versionAt
+
+-- 3 limit: "a count outside its limits, or U is 0 or above P"; "the first byte of the field"
+unfoldable pub overLimit : List ℕ → Option ℕ
+overLimit b =
+    let h = headerOf b in
+    among
+    (when (ltb maxDepth (h .g)) gAt
+    ∷ when (outside 1 maxCapacity (h .c)) cAt
+    ∷ when (outside 1 maxPages (h .limit)) limitAt
+    ∷ when (outside 1 (h .limit) (h .used)) usedAt
+    ∷ when (ltb maxOps (h .ops)) opCountAt
+    ∷ when (ltb maxTurns (h .turns)) turnCountAt
+    ∷ [])
+
+-- 4 offset: "an offset or total not as computed; length not the total (place 28)"
+unfoldable pub wrongOffset : List ℕ → Option ℕ
+wrongOffset b =
+    let h = headerOf b in
+    among
+    (when (not (eqb (long b directoryOffsetAt) directoryOffset)) directoryOffsetAt
+    ∷ when (not (eqb (long b tableOffsetAt) (tableOffset h))) tableOffsetAt
+    ∷ when (not (eqb (long b opsOffsetAt) (opsOffset h))) opsOffsetAt
+    ∷ when (not (eqb (long b turnsOffsetAt) (turnsOffset h))) turnsOffsetAt
+    ∷ when (not (eqb (long b totalAt) (total h)) || not (eqb (length b) (total h))) totalAt
+    ∷ [])
+
+-- 5 entry: "0 or above U"
+unfoldable pub entryFault : ℕ → ℕ → ℕ → Option ℕ
+entryFault used j x = when (outside 1 used x) (entryPlace j)
+
+unfoldable pub wrongEntry : List ℕ → Option ℕ
+wrongEntry b = let f = fileOf b in firstOf (entryFault (f .used)) 0 (f .directory)
+
+-- 6 page: "l above g, pattern 2^l or more, count above c, or an unused record or unused page not zero". Page x has the bytes p
+unfoldable pub badPage : Header → ℕ → List ℕ → Bool
+badPage h x p =
+    ltb (h .g) (byte p 0)
+    || leb (2 ^ byte p 0) (word p 2)
+    || ltb (h .c) (byte p 1)
+    || not (zeros (drop (4 + recordSize * byte p 1) p))
+    || (ltb (h .used) x && not (zeros p))
+
+unfoldable pub pageFault : Header → ℕ → List ℕ → Option ℕ
+pageFault h x p = when (badPage h x p) (pagePlace h x)
+
+unfoldable pub wrongPage : List ℕ → Option ℕ
+wrongPage b = let h = headerOf b in firstOf (pageFault h) 1 (pageParts h b)
+
+-- the pattern of a page begins entry j
+unfoldable pub owns : ℕ → ℕ → Page → Bool
+owns g j p = begins g (p .depth) (p .pattern) j
+
+-- page y, which is p, is another page than x, and its pattern begins entry j
+unfoldable pub ownsToo : ℕ → ℕ → ℕ → ℕ → Page → Bool
+ownsToo g j x y p = not (eqb y x) && owns g j p
+
+-- 7 owner: "for entry j, its page's pattern does not begin j, or another page's in use does". Entry j names page x
+unfoldable pub badOwner : File → ℕ → ℕ → Bool
+badOwner f j x = not (owns (f .g) j (pageAt f x)) || anyOf (ownsToo (f .g) j x) 1 (pagesInUse f)
+
+unfoldable pub ownerFault : File → ℕ → ℕ → Option ℕ
+ownerFault f j x = when (badOwner f j x) (entryPlace j)
+
+unfoldable pub wrongOwner : List ℕ → Option ℕ
+wrongOwner b = let f = fileOf b in firstOf (ownerFault f) 0 (f .directory)
+
+-- 8 record: "pseudo key does not begin with the pattern, or the call is earlier in the page". Record number i of the page is r
+unfoldable pub badRecord : Page → ℕ → Rec → Bool
+badRecord p i r = not (eqb (index (p .depth) (r .call)) (p .pattern)) || isSome (findIn (take i (p .records)) (r .call))
+
+unfoldable pub recordFault : ℕ → Page → ℕ → Rec → Option ℕ
+recordFault place p i r = when (badRecord p i r) (recordPlace place i)
+
+unfoldable pub recordFaultIn : Header → ℕ → Page → Option ℕ
+recordFaultIn h x p = firstOf (recordFault (pagePlace h x) p) 0 (p .records)
+
+unfoldable pub wrongRecord : List ℕ → Option ℕ
+wrongRecord b = let h = headerOf b in firstOf (recordFaultIn h) 1 (pagesInUse (fileOf b))
+
+-- 9 operation: "kind not 1 to 3, spare byte or charge not zero where it must be". "charge (4; zero unless an insert)". The operation has the bytes o
+unfoldable pub badOp : List ℕ → Bool
+badOp o = outside 1 3 (byte o 0) || not (eqb (byte o 1) 0) || (not (eqb (byte o 0) 2) && not (eqb (long o 6) 0))
+
+unfoldable pub opFault : Header → ℕ → List ℕ → Option ℕ
+opFault h i o = when (badOp o) (opPlace h i)
+
+unfoldable pub wrongOp : List ℕ → Option ℕ
+wrongOp b = let h = headerOf b in firstOf (opFault h) 0 (opParts h b)
+
+-- 10 turn: "m or above"
+unfoldable pub turnFault : Header → ℕ → List ℕ → Option ℕ
+turnFault h t u = when (leb (h .ops) (numberOf u)) (turnPlace h t)
+
+unfoldable pub wrongTurn : List ℕ → Option ℕ
+wrongTurn b = let h = headerOf b in firstOf (turnFault h) 0 (turnParts h b)
+
+-- The lengths of what is lent: result buffer in bytes, table in rows, other working memory in bytes.
+pub record Lent : Type 0 where
+  pub result : ℕ
+  pub rows : ℕ
+  pub work : ℕ
+
+-- "24 + 12m + the charge file's length"
+unfoldable pub resultSize : Header → ℕ
+resultSize h = 24 + 12 * h .ops + fileLength h
+
+-- "other lent working memory under 24,576 bytes"
+abbrev pub workSize : ℕ
+workSize = 24576
+
+-- 11 output: "result buffer under .. (place 0); lent table under m rows (place 1); other lent working memory under .. (place 2)"
+unfoldable pub smallOutput : Lent → List ℕ → Option ℕ
+smallOutput l b =
+    let h = headerOf b in
+    among (when (ltb (l .result) (resultSize h)) 0 ∷ when (ltb (l .rows) (h .ops)) 1 ∷ when (ltb (l .work) workSize) 2 ∷ [])
+
+-- "A refusal gives the number and a place"
+pub record Fault : Type 0 where
+  pub number : ℕ
+  pub place : ℕ
+
+unfoldable pub numbered : ℕ → Option ℕ → Option Fault
+numbered n none = none
+numbered n (some p) = some (record { number = n; place = p })
+
+-- the first of some rows, numbered from n on, that holds
+unfoldable pub firstRow : ℕ → List (List ℕ → Option ℕ) → List ℕ → Option Fault
+firstRow n [] b = none
+firstRow n (r ∷ rs) b = let rest = firstRow (suc n) rs b in orElse (numbered n (r b)) rest
+
+-- the rows that are about a job's bytes alone, 1 to 10
+abbrev pub rows : List (List ℕ → Option ℕ)
+rows =
+    short ∷ wrongVersion ∷ overLimit ∷ wrongOffset ∷ wrongEntry ∷ wrongPage ∷ wrongOwner ∷ wrongRecord ∷ wrongOp ∷ wrongTurn ∷ []
+
+unfoldable pub jobFault : List ℕ → Option Fault
+jobFault b = firstRow 1 rows b
+
+-- "Checked by rising number except that 11 comes last, then by lowest place"
+unfoldable pub firstFault : Lent → List ℕ → Option Fault
+firstFault l b = let last = numbered 11 (smallOutput l b) in orElse (jobFault b) last

@@ -1,0 +1,128 @@
+-- Demand 3 as one record, `Explained`, and what is claimed: it holds for every accepted job, given as bytes. Definitions only.
+use Prim.Native.Nat.{ℕ, zero, suc, _+_, _<_, _≤_}
+use mathlib.Core.Path.{_≡_}
+use mathlib.Core.Logic.{_⊎_, _↔_}
+use mathlib.Core.List.{List, [], _∷_, map}
+use mathlib.Core.Bool.{Bool, true, false}
+use mathlib.Core.Option.{Option, none, some}
+use lib.ListN.{length, getD, take}
+use lib.Dec.{eqb}
+use Rattle.spec.specs.declared.Rec.{Rec}
+use Rattle.spec.specs.declared.Op.{Op}
+use Rattle.spec.specs.declared.Kind.{Kind}
+use Rattle.spec.specs.declared.Kind.the-variants.{Search}
+use Rattle.spec.specs.declared.Stage.{Stage}
+use Rattle.spec.specs.declared.Stage.the-variants.{Done}
+use Rattle.spec.specs.Basics.{if}
+use Rattle.spec.specs.Code.{notYet, noDepth, noPage}
+use Rattle.spec.specs.File.{File, findIn, contents}
+use Rattle.spec.specs.Job.{Job, noOp}
+use Rattle.spec.specs.Decode.{jobOf}
+use Rattle.spec.specs.State.{State}
+use Rattle.spec.specs.Run.{idle, stageOf, steps, start, run}
+use Rattle.spec.specs.Result.{Told, Line, result}
+use Rattle.spec.specs.PlainList.{Reply, replyOf, nothingTold, Replay, replay}
+use Rattle.spec.specs.Check.{jobFault}
+use Rattle.spec.specs.Proper.{NoneTwice}
+
+-- a record is in a list
+pub data Has {A : Type 0} (r : A) : List A → Type 0 where
+  here : {rs : List A} → Has r (r ∷ rs)
+  there : {a : A} {rs : List A} → Has r rs → Has r (a ∷ rs)
+
+-- the state after the first t turns, that is before turn t (turns count from 0)
+unfoldable pub stateAt : Job → ℕ → State
+stateAt j t = steps (j .ops) (start (j .file) (length (j .ops))) (take t (j .turns))
+
+-- "An operation's first turn is the first that names it"
+pub record FirstTurn (j : Job) (i t : ℕ) : Type 0 where
+  pub within : t < length (j .turns)
+  pub named : getD (j .turns) t 0 ≡ i
+  pub notBefore : (u : ℕ) → u < t → getD (j .turns) u 0 ≡ i → ⊥
+
+-- "it ended on the turn that finished it"
+pub record Ended (j : Job) (i t : ℕ) : Type 0 where
+  pub within : t < length (j .turns)
+  pub before : stageOf (stateAt j t) i ≡ Done → ⊥
+  pub after : stageOf (stateAt j (suc t)) i ≡ Done
+
+-- "An unfinished operation can use a turn if the next turn, given to it, would not wait": that it would wait
+pub record Waits (s : State) (i : ℕ) : Type 0 where
+  pub unfinished : stageOf s i ≡ Done → ⊥
+  pub idles : idle (s .locks) (stageOf s i) ≡ true
+
+-- how many lines of a log name operation i
+unfoldable pub times : ℕ → List Line → ℕ
+times i [] = 0
+times i (h ∷ hs) = if (eqb (h .op) i) (suc (times i hs)) (times i hs)
+
+-- "by moment, then operation": one line stands before another
+abbrev pub Before : Line → Line → Type 0
+Before a b = (a .moment < b .moment) ⊎ ((a .moment ≡ b .moment) × (a .op < b .op))
+
+-- of a job's result: the log, its line at place p, the operation of that line, an operation's answer
+unfoldable pub log : Job → List Line
+log j = result j .log
+
+abbrev pub noLine : Line
+noLine = record { moment = 0; op = 0 }
+
+abbrev pub lineAt : Job → ℕ → Line
+lineAt j p = getD (log j) p noLine
+
+abbrev pub opAt : Job → ℕ → Op
+opAt j p = getD (j .ops) (lineAt j p .op) noOp
+
+unfoldable pub answerOf : Job → ℕ → Told
+answerOf j i = getD (result j .answers) i nothingTold
+
+-- the plain list, which "starts as what the file held when it came in", fed the first n lines of the log: its replies, and the list then
+unfoldable pub fed : Job → ℕ → Replay
+fed j n = replay (j .ops) (result j .answers) (take n (log j)) (contents (j .file))
+
+-- The turn list of a job is explained by its log, on the plain list.
+pub record Explained (j : Job) : Type 0 where
+  -- "Line for line, its code and charge equal those in the result"
+  pub answers : fed j (length (log j)) .replies ≡ map (λ h. replyOf (answerOf j (h .op))) (log j)
+  -- an insert told 7 or 8 finds its call missing, and changes nothing
+  pub refused
+      : (p : ℕ)
+      → p < length (log j)
+      → (answerOf j (lineAt j p .op) .code ≡ noDepth) ⊎ (answerOf j (lineAt j p .op) .code ≡ noPage)
+      → (findIn (fed j p .list) (opAt j p .call) ≡ none) × (fed j (suc p) .list ≡ fed j p .list)
+  -- "the log has each operation whose code is not 0 once, and no other"
+  pub once : (i : ℕ) → (answerOf j i .code ≡ notYet → ⊥) → times i (log j) ≡ 1
+  pub noOther : (i : ℕ) → answerOf j i .code ≡ notYet → times i (log j) ≡ 0
+  -- "by moment, then operation"
+  pub sorted : (p q : ℕ) → p < q → q < length (log j) → Before (lineAt j p) (lineAt j q)
+  -- "At the end a call with its charge is in it exactly when the file after the last turn .. holds them, in whatever order"; "no call twice"
+  pub held : (r : Rec) → Has r (fed j (length (log j)) .list) ↔ Has r (contents (run j .file))
+  pub listOnce : (n : ℕ) → NoneTwice (fed j n .list)
+  pub fileOnce : (t : ℕ) → t ≤ length (j .turns) → NoneTwice (contents (stateAt j t .file))
+  -- "real-time order is kept": of two operations in the log, one that ended before the other's first turn stands first
+  pub order
+      : (p q t u : ℕ)
+      → p < length (log j)
+      → q < length (log j)
+      → Ended j (lineAt j p .op) t
+      → FirstTurn j (lineAt j q .op) u
+      → t < u
+      → p < q
+  -- "no search waits": at no time would a search's next turn wait
+  pub searches : (t i : ℕ) → t ≤ length (j .turns) → getD (j .ops) i noOp .kind ≡ Search → Waits (stateAt j t) i → ⊥
+  -- "some unfinished operation can always use a turn", if one is unfinished. (A list that stops earlier is a shorter list of the same claim.)
+  pub progress
+      : (i : ℕ)
+      → i < length (j .ops)
+      → (stageOf (run j) i ≡ Done → ⊥)
+      → (k : ℕ) × (k < length (j .ops)) × (stageOf (run j) k ≡ Done → ⊥) × (Waits (run j) k → ⊥)
+  -- a finished operation has an answer
+  pub finished : (i : ℕ) → i < length (j .ops) → stageOf (run j) i ≡ Done → answerOf j i .code ≡ notYet → ⊥
+
+-- "A job that meets no row below is run"
+abbrev pub Accepted : List ℕ → Type 0
+Accepted b = jobFault b ≡ none
+
+-- DEMAND 3: every accepted job, given as its bytes, whatever its turns and wherever they stop
+abbrev pub Demand3 : Type 0
+Demand3 = (b : List ℕ) → Accepted b → Explained (jobOf b)

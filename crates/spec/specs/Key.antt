@@ -1,0 +1,36 @@
+-- "The file": pseudo keys, the bits that they begin with, and directory indices.
+-- Of the pseudo key itself nothing else is used than that it has 32 bits: two calls may share one.
+use Prim.Native.Nat.{ℕ, zero, suc, _+_, _-_, _*_, _/_, _%_, _^_}
+use mathlib.Core.Bool.{Bool, true, false}
+use lib.Dec.{eqb}
+use Rattle.spec.specs.Basics.{if}
+
+-- the lowest n bits of k, reversed, behind the bits of acc
+unfoldable pub reversed : ℕ → ℕ → ℕ → ℕ
+reversed zero k acc = acc
+reversed (suc n) k acc = reversed n (k / 2) (2 * acc + k % 2)
+
+-- "Its pseudo key is the call number with its 32 bits reversed"
+unfoldable pub pseudoKey : ℕ → ℕ
+pseudoKey call = reversed 32 call 0
+
+-- the first d bits of a pseudo key, read as a number
+unfoldable pub firstBits : ℕ → ℕ → ℕ
+firstBits d key = key / 2 ^ (32 - d)
+
+-- "Entry j belongs to the calls whose first g pseudo-key bits, read as a number, are j": that j, at any depth
+unfoldable pub index : ℕ → ℕ → ℕ
+index d call = firstBits d (pseudoKey call)
+
+-- bit number d of the call's pseudo key, from the top and from 0: the bit that a split of a page of depth d goes by
+unfoldable pub bit : ℕ → ℕ → Bool
+bit d call = eqb (index (suc d) call % 2) 1
+
+-- "How many leading bits two pseudo keys share": the most, up to n, that both begin with
+unfoldable pub shared : ℕ → ℕ → ℕ → ℕ
+shared zero a b = 0
+shared (suc n) a b = if (eqb (firstBits (suc n) a) (firstBits (suc n) b)) (suc n) (shared n a b)
+
+-- a pattern of l bits begins entry j, which has g bits
+unfoldable pub begins : ℕ → ℕ → ℕ → ℕ → Bool
+begins g l pattern j = eqb (j / 2 ^ (g - l)) pattern

@@ -1,0 +1,29 @@
+-- What a reader must believe: document 01's rules, a file for each part, in the document's order.
+-- shared tools
+pub mod Basics
+-- "The file"
+pub mod Key
+pub mod File
+-- "The job, byte by byte"
+pub mod Bytes
+pub mod Job
+pub mod Encode
+pub mod Decode
+-- "Turns"
+pub mod Split
+pub mod Code
+pub mod State
+pub mod Turn
+pub mod Run
+-- "The result"
+pub mod Result
+-- "The plain list"
+pub mod PlainList
+-- "Refused jobs"
+pub mod Check
+pub mod Outcome
+-- "Jobs worked through"
+pub mod Report
+-- what is claimed
+pub mod Proper
+pub mod Claims

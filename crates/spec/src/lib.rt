@@ -1,0 +1,58 @@
+// The values that code and definitions share, so that no translation between the two has to be believed.
+// Types only: nothing here runs. What each case and field stands for is said in specs/.
+
+// "kind (1 search, 2 insert, 3 delete)": the numbers are tied to the cases in specs/Job.antt.
+pub enum Kind {
+    Search,
+    Insert,
+    Delete,
+}
+
+// A call with its charge in cents, as a page keeps it.
+pub struct Rec {
+    pub call: u32,
+    pub charge: u32,
+}
+
+// An operation of a job.
+pub struct Op {
+    pub kind: Kind,
+    pub call: u32,
+    pub charge: u32,
+}
+
+// What an operation that holds one page, and no other, does next.
+pub enum Task {
+    Verify,
+    Release(u16),
+    Decide,
+    WritePage,
+    WriteOld,
+    Unlock,
+}
+
+// What an operation that holds a page and the new pages of its split does next:
+// write a new page (from 1), write an entry, unlock the new pages.
+pub enum Part {
+    WriteNew(u16),
+    WriteEntry(u16),
+    UnlockNew,
+}
+
+// Where an operation stands, that is what its next turn does. `Held` has the page held; `Split` has the page held,
+// the number of pages in use before the split, and the number of its new pages.
+pub enum Stage {
+    NotBegun,
+    ReadPage(u16),
+    Reread(u16, u16),
+    Lock(u16),
+    Held(u16, Task),
+    Split(u16, u16, u16, Part),
+    Done,
+}
+
+// What a job comes to: run, with the length of its result; or refused, with number and place.
+pub enum Outcome {
+    Ran(u32),
+    Refused(u32, u32),
+}
