@@ -27,3 +27,8 @@ pub mod Report
 -- what is claimed
 pub mod Proper
 pub mod Claims
+-- by computation: the marked items, the refusal table
+pub mod Opened
+pub mod Worked
+pub mod Marked
+pub mod Refusals

@@ -1,0 +1,101 @@
+-- The ten marked items of "Jobs worked through" as one table, from job bytes to result bytes, refusal or printed text. One proof covers its rows.
+use Prim.Native.Nat.{ℕ}
+use mathlib.Core.Path.{_≡_, refl}
+use mathlib.Core.List.{List, [], _∷_, _++_, map}
+use lib.ListN.{length, drop, replicate}
+use Rattle.spec.specs.declared.Rec.{Rec}
+use Rattle.spec.specs.declared.Outcome.{Outcome}
+use Rattle.spec.specs.declared.Outcome.the-variants.{Ran, Refused}
+use Rattle.spec.specs.Key.{pseudoKey}
+use Rattle.spec.specs.File.{contents}
+use Rattle.spec.specs.Decode.{jobOf}
+use Rattle.spec.specs.Run.{run}
+use Rattle.spec.specs.PlainList.{Reply, Replay}
+use Rattle.spec.specs.Check.{Lent}
+use Rattle.spec.specs.Outcome.{outcome, bufferAfter, rowsAfter, workAfter}
+use Rattle.spec.specs.Report.{printed}
+use Rattle.spec.specs.Claims.{log, fed}
+use Rattle.spec.specs.Worked.{jobB, resultB, textB, jobLong, jobC, resultC, jobInsert, resultD, jobG, resultG, jobH, resultH, jobI, resultI, jobJ, resultJ}
+use Rattle.spec.specs.Opened.{opened}
+
+-- what is lent: a result buffer of 1,000 bytes that are all 7, 4 rows, and the least working memory
+abbrev lent : Lent
+lent = record { result = 1000; rows = 4; work = 24576 }
+
+abbrev buffer : List ℕ
+buffer = replicate 1000 7
+
+-- What a row of the table asks of the definitions, and what they say.
+data Asked : Type 0 where
+  key : ℕ → Asked
+  job : List ℕ → Asked
+  print : List ℕ → Asked
+  list : List ℕ → Asked
+
+data Said : Type 0 where
+  number : ℕ → Said
+  ends : Outcome → List ℕ → Said
+  bytes : List ℕ → Said
+  holds : Replay → List Rec → Said
+
+-- (`list`: the plain list fed the whole log, and what the file holds at the end)
+abbrev says : Asked → Said
+says (key call) = number (pseudoKey call)
+says (job b) = ends (outcome lent b) (bufferAfter lent b buffer)
+says (print b) = bytes (printed b)
+says (list b) = holds (fed (jobOf b) (length (log (jobOf b)))) (contents (run (jobOf b) .file))
+
+record Item : Type 0 where
+  asked : Asked
+  paper : Said
+
+infix 20 _⇒_
+abbrev _⇒_ : Asked → Said → Item
+a ⇒ p = record { asked = a; paper = p }
+
+-- a result written over the lent buffer; and a refused job's, which is not written
+abbrev ran : List ℕ → Said
+ran r = ends (Ran (length r)) (r ++ drop (length r) buffer)
+
+abbrev refused : ℕ → ℕ → Said
+refused n p = ends (Refused n p) buffer
+
+infix 90 _=>_
+abbrev _=>_ : ℕ → ℕ → Rec
+a => b = record { call = a; charge = b }
+
+abbrev reply : ℕ → ℕ → Reply
+reply k c = record { code = k; charge = c }
+
+-- job E on the plain list: search 3, delete 3, search 3, insert 4
+abbrev replayB : Replay
+replayB = record { replies = reply 1 70 ∷ reply 5 70 ∷ reply 2 0 ∷ reply 3 90 ∷ []; list = 2 => 50 ∷ 4 => 90 ∷ [] }
+
+abbrev marked : List Item
+marked =
+    (key 1 ⇒ number 0x80000000)  -- A
+    ∷ (key 6 ⇒ number 0x60000000)
+    ∷ (key 0 ⇒ number 0)
+    ∷ (job jobB ⇒ ran resultB)  -- B
+    ∷ (print jobB ⇒ bytes textB)
+    ∷ (list jobB ⇒ holds replayB (2 => 50 ∷ 4 => 90 ∷ []))
+    ∷ (job jobC ⇒ ran resultC)  -- C
+    ∷ (job (jobInsert 3) ⇒ ran (resultD 8 0))  -- D
+    ∷ (job (jobInsert 9) ⇒ ran (resultD 7 0))  -- E2
+    ∷ (job (jobInsert 1) ⇒ ran (resultD 4 10))  -- F
+    ∷ (job jobG ⇒ ran resultG)  -- G
+    ∷ (job jobH ⇒ ran resultH)  -- H
+    ∷ (job (jobI 9) ⇒ refused 3 2)  -- I
+    ∷ (job (jobI 8) ⇒ ran resultI)
+    ∷ (job (jobJ 4) ⇒ refused 10 116)  -- J
+    ∷ (job (jobJ 3) ⇒ ran resultJ)
+    ∷ []
+
+table : map (λ (m : Item). says (m .asked)) marked ≡ map (λ (m : Item). m .paper) marked
+unfolding opened log fed
+table = refl
+
+-- a list of some thousand turns computes too
+long-list : says (job jobLong) ≡ ran resultB
+unfolding opened
+long-list = refl
