@@ -22,6 +22,7 @@ pub mod PlainList
 -- "Refused jobs"
 pub mod Check
 pub mod Outcome
+pub mod Cases
 -- "Jobs worked through"
 pub mod Report
 -- what is claimed

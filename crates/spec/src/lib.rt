@@ -51,8 +51,26 @@ pub enum Stage {
     Done,
 }
 
+// What a page has of a call: its charge, or nothing.
+pub enum Found {
+    Charge(u32),
+    Missing,
+}
+
+// The lowest place at which a row of the refusal table holds, or none.
+pub enum Spot {
+    At(usize),
+    Nowhere,
+}
+
+// What the check of a job's bytes comes to: no fault, or number and place of the first.
+pub enum Checked {
+    Accepted,
+    Refused(usize, usize),
+}
+
 // What a job comes to: run, with the length of its result; or refused, with number and place.
 pub enum Outcome {
-    Ran(u32),
-    Refused(u32, u32),
+    Ran(usize),
+    Refused(usize, usize),
 }
