@@ -1,0 +1,219 @@
+//! The refusal table ("Refused jobs"), one function for each row.
+//!
+//! A row's function gives the lowest place at which its row is met. It may
+//! take for granted that no row with a lower number is met, because the rows
+//! are "checked by rising number".
+
+use std::collections::HashSet;
+
+use crate::job::{
+    Counts, Kind, ENTRY_LENGTH, HEADER_LENGTH, MAX_CAPACITY, MAX_DEPTH, MAX_OPERATIONS, MAX_PAGES,
+    MAX_TURNS, OPERATION_LENGTH, TURN_LENGTH, VERSION,
+};
+use crate::key;
+use crate::little_endian::{four_at, two_at};
+use crate::page::{page_length, Page};
+use crate::result::{ANSWER_LENGTH, LINE_LENGTH, RESULT_HEADER_LENGTH};
+
+/// "Other lent working memory under 24,576 bytes".
+pub const WORKING_MEMORY: usize = 24_576;
+
+type Row = fn(&[u8]) -> Option<usize>;
+
+/// Rows 1 to 10 in the order in which they are checked.
+const ROWS: [(u32, Row); 10] = [
+    (1, short),
+    (2, version),
+    (3, limit),
+    (4, offset),
+    (5, entry),
+    (6, page),
+    (7, owner),
+    (8, record),
+    (9, operation),
+    (10, turn),
+];
+
+/// The refusal of a job by rows 1 to 10: its number and place.
+pub fn check(job: &[u8]) -> Option<(u32, u32)> {
+    let met = |(number, row): &(u32, Row)| row(job).map(|place| (*number, place as u32));
+    ROWS.iter().find_map(met)
+}
+
+/// The refusal by all rows; "11 comes last", after the job itself.
+pub fn check_all(
+    job: &[u8],
+    result_len: usize,
+    rows_len: usize,
+    memory_len: usize,
+) -> Option<(u32, u32)> {
+    check(job).or_else(|| output(job, result_len, rows_len, memory_len).map(|place| (11, place)))
+}
+
+/// How long a result buffer must be: "24 + 12m + the charge file's length".
+/// 12m is an answer and a log line for every operation.
+pub fn result_room(counts: &Counts) -> usize {
+    RESULT_HEADER_LENGTH
+        + (ANSWER_LENGTH + LINE_LENGTH) * counts.operations
+        + counts.charge_file_length()
+}
+
+/// Row 1: "under 32 bytes; place is the length".
+fn short(job: &[u8]) -> Option<usize> {
+    (job.len() < HEADER_LENGTH).then_some(job.len())
+}
+
+/// Row 2: version "not 1"; the place is "0 for 2".
+fn version(job: &[u8]) -> Option<usize> {
+    (two_at(job, 0) != VERSION).then_some(0)
+}
+
+/// Row 3: "a count outside its limits, or U is 0 or above P". The fields are
+/// tried in the order of their places, so the first met is the lowest.
+fn limit(job: &[u8]) -> Option<usize> {
+    let counts = Counts::read(job);
+    let fields = [
+        (2, counts.depth <= MAX_DEPTH),
+        (3, (1..=MAX_CAPACITY).contains(&counts.capacity)),
+        (4, (1..=MAX_PAGES).contains(&counts.pages)),
+        (6, (1..=counts.pages).contains(&counts.in_use)),
+        (8, counts.operations <= MAX_OPERATIONS),
+        (10, counts.turns <= MAX_TURNS),
+    ];
+    fields
+        .iter()
+        .find(|(_, within)| !within)
+        .map(|(place, _)| *place)
+}
+
+/// Row 4: "an offset or total not as computed; length not the total (place
+/// 28)". Place 28 is the total's own field, so it is the last either way.
+fn offset(job: &[u8]) -> Option<usize> {
+    let layout = Counts::read(job).layout();
+    let fields = [
+        (12, layout.directory),
+        (16, layout.pages),
+        (20, layout.operations),
+        (24, layout.turns),
+        (28, layout.total),
+    ];
+    let wrong = |(place, value): &&(usize, usize)| four_at(job, *place) as usize != *value;
+    let field = fields.iter().find(wrong).map(|(place, _)| *place);
+    field.or((job.len() != layout.total).then_some(28))
+}
+
+/// Row 5: an entry "0 or above U".
+fn entry(job: &[u8]) -> Option<usize> {
+    let counts = Counts::read(job);
+    let places = (0..1 << counts.depth).map(|j| entry_place(&counts, j));
+    places
+        .into_iter()
+        .find(|place| !(1..=counts.in_use).contains(&two_at(job, *place)))
+}
+
+/// Row 6: "l above g, pattern 2^l or more, count above c, or an unused record
+/// or unused page not zero".
+fn page(job: &[u8]) -> Option<usize> {
+    let counts = Counts::read(job);
+    let length = page_length(counts.capacity);
+    let wrong = |number: &usize| {
+        let bytes = &job[page_place(&counts, *number)..][..length];
+        if *number > counts.in_use {
+            return bytes.iter().any(|byte| *byte != 0);
+        }
+        let (depth, count) = (usize::from(bytes[0]), usize::from(bytes[1]));
+        depth > counts.depth
+            || two_at(bytes, 2) >= 1 << depth
+            || count > counts.capacity
+            || bytes[4 + 8 * count..].iter().any(|byte| *byte != 0)
+    };
+    let number = (1..=counts.pages).find(wrong)?;
+    Some(page_place(&counts, number))
+}
+
+/// Row 7: "for entry j, its page's pattern does not begin j, or another
+/// page's in use does".
+fn owner(job: &[u8]) -> Option<usize> {
+    let counts = Counts::read(job);
+    let pages = pages_in_use(job, &counts);
+    let wrong = |j: &usize| {
+        let named = two_at(job, entry_place(&counts, *j));
+        pages.iter().enumerate().any(|(p, page)| {
+            let owns = page.owns(*j, counts.depth as u32);
+            owns != (p + 1 == named)
+        })
+    };
+    let j = (0..1 << counts.depth).find(wrong)?;
+    Some(entry_place(&counts, j))
+}
+
+/// Row 8: "pseudo key does not begin with the pattern, or the call is earlier
+/// in the page".
+fn record(job: &[u8]) -> Option<usize> {
+    let counts = Counts::read(job);
+    for (p, page) in pages_in_use(job, &counts).iter().enumerate() {
+        let mut earlier = HashSet::new();
+        for (k, record) in page.records.iter().enumerate() {
+            let first_bits = key::index(record.call, page.depth);
+            if first_bits != page.pattern as usize || !earlier.insert(record.call) {
+                return Some(page_place(&counts, p + 1) + 4 + 8 * k);
+            }
+        }
+    }
+    None
+}
+
+/// Row 9: "kind not 1 to 3, spare byte or charge not zero where it must be".
+/// The charge must be zero "unless an insert".
+fn operation(job: &[u8]) -> Option<usize> {
+    let counts = Counts::read(job);
+    let first = counts.layout().operations;
+    let places = (0..counts.operations).map(|i| first + OPERATION_LENGTH * i);
+    places.into_iter().find(|place| {
+        let row = &job[*place..][..OPERATION_LENGTH];
+        let charge = four_at(row, 6);
+        match Kind::from_number(row[0]) {
+            None => true,
+            Some(kind) => row[1] != 0 || (kind != Kind::Insert && charge != 0),
+        }
+    })
+}
+
+/// Row 10: a turn "m or above".
+fn turn(job: &[u8]) -> Option<usize> {
+    let counts = Counts::read(job);
+    let first = counts.layout().turns;
+    let places = (0..counts.turns).map(|t| first + TURN_LENGTH * t);
+    places
+        .into_iter()
+        .find(|place| two_at(job, *place) >= counts.operations)
+}
+
+/// Row 11: result buffer (place 0), lent table (1), other lent memory (2).
+fn output(job: &[u8], result_len: usize, rows_len: usize, memory_len: usize) -> Option<u32> {
+    let counts = Counts::read(job);
+    if result_len < result_room(&counts) {
+        Some(0)
+    } else if rows_len < counts.operations {
+        Some(1)
+    } else if memory_len < WORKING_MEMORY {
+        Some(2)
+    } else {
+        None
+    }
+}
+
+/// The first byte of entry `j`.
+pub fn entry_place(counts: &Counts, j: usize) -> usize {
+    counts.layout().directory + ENTRY_LENGTH * j
+}
+
+/// The first byte of a page, by its number from 1.
+pub fn page_place(counts: &Counts, number: usize) -> usize {
+    counts.layout().pages + page_length(counts.capacity) * (number - 1)
+}
+
+fn pages_in_use(job: &[u8], counts: &Counts) -> Vec<Page> {
+    let read = |number| Page::from_bytes(&job[page_place(counts, number)..]);
+    (1..=counts.in_use).map(read).collect()
+}

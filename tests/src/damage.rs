@@ -1,0 +1,328 @@
+//! Damaged jobs, for every row of the refusal table but the last.
+//!
+//! A [`Fault`] is made in a sound job at a place that is known beforehand, so
+//! a test can ask for exactly that number and place. [`scribble`] damages at
+//! random; what comes of it has to be found out some other way.
+
+use crate::check::{entry_place, page_place};
+use crate::job::{
+    Counts, Job, Kind, Layout, HEADER_LENGTH, MAX_CAPACITY, MAX_DEPTH, MAX_OPERATIONS, MAX_PAGES,
+    MAX_TURNS, OPERATION_LENGTH, TURN_LENGTH,
+};
+use crate::page::{page_length, Page};
+use crate::random::Random;
+
+/// A fault with the refusal that a sound job gets by it.
+#[derive(Clone, Debug, PartialEq, Eq)]
+pub struct Fault {
+    pub number: u32,
+    pub place: u32,
+    edits: Vec<(usize, u8)>,
+    length: Option<usize>,
+}
+
+impl Fault {
+    fn new(number: u32, place: usize, edits: Vec<(usize, u8)>) -> Fault {
+        Fault {
+            number,
+            place: place as u32,
+            edits,
+            length: None,
+        }
+    }
+
+    /// The job with this fault.
+    pub fn apply(&self, job: &[u8]) -> Vec<u8> {
+        let mut damaged = job.to_vec();
+        for (place, byte) in &self.edits {
+            if let Some(old) = damaged.get_mut(*place) {
+                *old = *byte;
+            }
+        }
+        damaged.resize(self.length.unwrap_or(damaged.len()), 0xa5);
+        damaged
+    }
+
+    /// Whether both faults write the same byte, so that only one would stay.
+    pub fn overlaps(&self, other: &Fault) -> bool {
+        let written = |place: usize| other.edits.iter().any(|(there, _)| *there == place);
+        self.edits.iter().any(|(place, _)| written(*place))
+            || (self.length.is_some() && other.length.is_some())
+    }
+}
+
+/// A job to be damaged: its bytes with what they mean.
+struct Target {
+    job: Job,
+    counts: Counts,
+    layout: Layout,
+}
+
+/// A fault of a row from 1 to 10, if this sound job can have one: a job with
+/// no turns has no turn to spoil.
+pub fn fault(random: &mut Random, job: &Job, number: u32) -> Option<Fault> {
+    let counts = job.counts();
+    let target = Target {
+        layout: counts.layout(),
+        job: job.clone(),
+        counts,
+    };
+    match number {
+        1 => Some(short(random)),
+        2 => Some(version(random)),
+        3 => Some(limit(random, &target)),
+        4 => Some(offset(random, &target)),
+        5 => Some(entry(random, &target)),
+        6 => page(random, &target),
+        7 => owner(random, &target),
+        8 => record(random, &target),
+        9 => operation(random, &target),
+        10 => turn(random, &target),
+        _ => panic!("no row {number} of the job"),
+    }
+}
+
+/// Random edits, cuts and additions.
+pub fn scribble(random: &mut Random, job: &[u8]) -> Vec<u8> {
+    let mut damaged = job.to_vec();
+    for _ in 0..random.between(1, 4) {
+        let place = some_place(random, &damaged);
+        damaged[place] = match random.below(3) {
+            0 => random.bits() as u8,
+            1 => damaged[place] ^ (1 << random.below(8)),
+            _ => random.below(4) as u8,
+        };
+    }
+    match random.below(10) {
+        0 => damaged.truncate(random.below(damaged.len() + 1)),
+        1 => damaged.resize(damaged.len() + random.between(1, 9), 0),
+        _ => {}
+    }
+    damaged
+}
+
+/// A place to scribble at: among the first bytes, where most rows look; or
+/// anywhere; or at a byte in use, since most bytes of a job are zeros that
+/// must stay zero, and those say little about the later rows.
+fn some_place(random: &mut Random, job: &[u8]) -> usize {
+    let anywhere = random.below(job.len());
+    let in_use = |place: &usize| job[*place] != 0;
+    match random.below(4) {
+        0 => random.below(job.len().min(64)),
+        1 => anywhere,
+        _ => (anywhere..job.len()).find(in_use).unwrap_or(anywhere),
+    }
+}
+
+/// The edits that write a number of so many bytes.
+fn write(place: usize, number: usize, bytes: usize) -> Vec<(usize, u8)> {
+    let byte = |step: usize| (place + step, (number >> (8 * step)) as u8);
+    (0..bytes).map(byte).collect()
+}
+
+fn short(random: &mut Random) -> Fault {
+    let length = random.below(HEADER_LENGTH);
+    Fault {
+        length: Some(length),
+        ..Fault::new(1, length, Vec::new())
+    }
+}
+
+fn version(random: &mut Random) -> Fault {
+    let number = random.one_of(&[0, 2, 256, 257, 65_535]);
+    Fault::new(2, 0, write(0, number, 2))
+}
+
+fn limit(random: &mut Random, target: &Target) -> Fault {
+    let above = random.percent(60);
+    let mut outside = |lowest: usize, highest: usize, most: usize| {
+        if lowest > 0 && !above {
+            lowest - 1
+        } else if random.percent(50) {
+            highest + 1
+        } else {
+            random.between(highest + 1, most)
+        }
+    };
+    let fields = [
+        (2, 1, outside(0, MAX_DEPTH, 255)),
+        (3, 1, outside(1, MAX_CAPACITY, 255)),
+        (4, 2, outside(1, MAX_PAGES, 65_535)),
+        (6, 2, outside(1, target.counts.pages, 65_535)),
+        (8, 2, outside(0, MAX_OPERATIONS, 65_535)),
+        (10, 2, outside(0, MAX_TURNS, 65_535)),
+    ];
+    let (place, bytes, value) = random.one_of(&fields);
+    Fault::new(3, place, write(place, value, bytes))
+}
+
+fn offset(random: &mut Random, target: &Target) -> Fault {
+    let Layout {
+        directory,
+        pages,
+        operations,
+        turns,
+        total,
+    } = target.layout;
+    let fields = [
+        (12, directory),
+        (16, pages),
+        (20, operations),
+        (24, turns),
+        (28, total),
+    ];
+    let length = match random.below(7) {
+        0 => random.between(HEADER_LENGTH, total - 1),
+        1 => total + random.between(1, 40),
+        _ => {
+            let (place, value) = random.one_of(&fields);
+            let wrong = random.one_of(&[value - 1, value + 1, 0, value + (1 << 24)]);
+            return Fault::new(4, place, write(place, wrong, 4));
+        }
+    };
+    Fault {
+        length: Some(length),
+        ..Fault::new(4, 28, Vec::new())
+    }
+}
+
+fn entry(random: &mut Random, target: &Target) -> Fault {
+    let place = entry_place(&target.counts, random.below(1 << target.counts.depth));
+    let above = target.counts.in_use + 1;
+    let far = random.between(above, 65_535);
+    let wrong = random.one_of(&[0, above, far]);
+    Fault::new(5, place, write(place, wrong, 2))
+}
+
+fn page(random: &mut Random, target: &Target) -> Option<Fault> {
+    let number = random.between(1, target.counts.pages);
+    let place = page_place(&target.counts, number);
+    let length = page_length(target.counts.capacity);
+    if number > target.counts.in_use {
+        let edit = (place + random.below(length), random.nonzero_byte());
+        return Some(Fault::new(6, place, vec![edit]));
+    }
+    let page = target.job.file.page(number);
+    let (count, capacity) = (page.records.len(), target.counts.capacity);
+    let edits = match random.below(5) {
+        0 => write(place, random.between(target.counts.depth + 1, 255), 1),
+        1 => write(place + 2, random.between(1 << page.depth, 65_535), 2),
+        2 => write(place + 1, random.between(capacity + 1, 255), 1),
+        3 if count < capacity => {
+            let unused = random.between(4 + 8 * count, length - 1);
+            vec![(place + unused, random.nonzero_byte())]
+        }
+        // One fewer counted: its bytes are now an unused record's. It needs a
+        // charge, because a fault of row 8 beside this one may make its call
+        // zero, and a record of zeros would pass as unused.
+        4 if page.records.last().is_some_and(|last| last.charge != 0) => {
+            write(place + 1, count - 1, 1)
+        }
+        _ => return None,
+    };
+    Some(Fault::new(6, place, edits))
+}
+
+/// Faults of row 7 by an entry, or by a page with another depth or pattern.
+fn owner(random: &mut Random, target: &Target) -> Option<Fault> {
+    if random.percent(40) {
+        owner_by_entry(random, target)
+    } else {
+        owner_by_page(random, target)
+    }
+}
+
+fn owner_by_entry(random: &mut Random, target: &Target) -> Option<Fault> {
+    let file = &target.job.file;
+    let j = random.below(file.directory.len());
+    let other = random.between(1, file.in_use);
+    let place = entry_place(&target.counts, j);
+    let wrong = Fault::new(7, place, write(place, other, 2));
+    (other != file.directory[j]).then_some(wrong)
+}
+
+fn owner_by_page(random: &mut Random, target: &Target) -> Option<Fault> {
+    let file = &target.job.file;
+    let number = random.between(1, file.in_use);
+    let page = file.page(number);
+    let (depth, pattern) = (page.depth, page.pattern);
+    let bit = random.below(2) as u32;
+    let (new_depth, new_pattern, j) = match random.below(3) {
+        // Shallower: it takes its other half's entries as well.
+        0 if depth > 0 => {
+            let sibling = first_entry(depth, pattern ^ 1, file.depth);
+            (depth - 1, pattern / 2, sibling)
+        }
+        // Deeper: it no longer begins one half of its entries.
+        1 if depth < file.depth => {
+            let lost = first_entry(depth + 1, 2 * pattern + 1 - bit, file.depth);
+            (depth + 1, 2 * pattern + bit, lost)
+        }
+        // Another pattern: it loses its own entries and takes another's.
+        2 if depth > 0 => {
+            let moved = pattern ^ random.between(1, (1 << depth) - 1) as u32;
+            let (lost, taken) = (
+                first_entry(depth, pattern, file.depth),
+                first_entry(depth, moved, file.depth),
+            );
+            (depth, moved, lost.min(taken))
+        }
+        _ => return None,
+    };
+    let place = page_place(&target.counts, number);
+    let mut edits = write(place, new_depth as usize, 1);
+    edits.extend(write(place + 2, new_pattern as usize, 2));
+    Some(Fault::new(7, entry_place(&target.counts, j), edits))
+}
+
+/// The lowest entry that a pattern begins.
+fn first_entry(depth: u32, pattern: u32, global: u32) -> usize {
+    (pattern << (global - depth)) as usize
+}
+
+fn record(random: &mut Random, target: &Target) -> Option<Fault> {
+    let file = &target.job.file;
+    let with_records = |number: &usize| !file.page(*number).records.is_empty();
+    let numbers: Vec<usize> = (1..=file.in_use).filter(with_records).collect();
+    if numbers.is_empty() {
+        return None;
+    }
+    let number = random.one_of(&numbers);
+    let Page { depth, records, .. } = file.page(number);
+    let k = random.below(records.len());
+    let call = match random.below(2) {
+        0 if *depth > 0 => records[k].call ^ (1 << random.below(*depth as usize)),
+        1 if k > 0 => records[random.below(k)].call,
+        _ => return None,
+    };
+    let place = page_place(&target.counts, number) + 4 + 8 * k;
+    Some(Fault::new(8, place, write(place, call as usize, 4)))
+}
+
+fn operation(random: &mut Random, target: &Target) -> Option<Fault> {
+    if target.counts.operations == 0 {
+        return None;
+    }
+    let i = random.below(target.counts.operations);
+    let place = target.layout.operations + OPERATION_LENGTH * i;
+    let edit = match random.below(3) {
+        0 => (place, random.one_of(&[0, 4, 5, 128, 255])),
+        1 => (place + 1, random.nonzero_byte()),
+        _ if target.job.operations[i].kind != Kind::Insert => {
+            (place + random.between(6, 9), random.nonzero_byte())
+        }
+        _ => return None,
+    };
+    Some(Fault::new(9, place, vec![edit]))
+}
+
+fn turn(random: &mut Random, target: &Target) -> Option<Fault> {
+    if target.counts.turns == 0 {
+        return None;
+    }
+    let place = target.layout.turns + TURN_LENGTH * random.below(target.counts.turns);
+    let m = target.counts.operations;
+    let far = random.between(m, 65_535);
+    let wrong = random.one_of(&[m, far, 65_535]);
+    Some(Fault::new(10, place, write(place, wrong, 2)))
+}

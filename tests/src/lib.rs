@@ -1,0 +1,42 @@
+//! A second implementation of "The charge file and its turns", for tests only.
+//!
+//! It was written from the document alone, so that a mistake in the library
+//! and a mistake here are unlikely to be the same mistake. Where the document
+//! leaves the manner open, this crate takes the plain way of the paper behind
+//! it: an insert works out its whole split once, in a private work space, and
+//! then only carries out what stands there.
+//!
+//! The calls a test needs:
+//!
+//! - [`check`]: the refusal of a job, rows 1 to 10, or `None`;
+//! - [`run`]: the result bytes, or the refusal, rows 1 to 11;
+//! - [`report`]: what `chargelog` prints;
+//! - [`page::Page`] and [`split`]: find, append, remove and split a page;
+//! - [`make`], [`damage`] and [`seeds`]: random jobs, damaged jobs, and seeds
+//!   that can be repeated;
+//! - [`explain`]: whether a log explains its answers by the plain list.
+
+pub mod answer;
+pub mod check;
+pub mod damage;
+pub mod explain;
+pub mod file;
+pub mod job;
+pub mod key;
+pub mod little_endian;
+pub mod make;
+pub mod make_turns;
+pub mod page;
+pub mod plain_list;
+pub mod random;
+pub mod report;
+pub mod result;
+pub mod run;
+pub mod seeds;
+pub mod shared;
+pub mod split;
+pub mod turn;
+
+pub use check::check;
+pub use report::report;
+pub use run::{run, Outcome};

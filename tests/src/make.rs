@@ -1,0 +1,217 @@
+//! Random files and jobs that no row of the refusal table meets.
+//!
+//! Evenly drawn call numbers would almost never meet, so the calls come from a
+//! small pool built around a hot call: many of them share their first bits.
+//! That is what makes full pages, splits of several pages, "no depth" and
+//! duplicates common instead of rare.
+
+use crate::file::ChargeFile;
+use crate::job::{Job, Kind, Operation, MAX_OPERATIONS, MAX_PAGES};
+use crate::key;
+use crate::make_turns;
+use crate::page::Record;
+use crate::random::Random;
+
+/// A random job.
+pub fn job(random: &mut Random) -> Job {
+    let mut job = job_without_turns(random);
+    job.turns = make_turns::turns(random, &job);
+    job
+}
+
+/// A random job with few operations and turns, for tests that take a job apart
+/// byte by byte and want many of them.
+pub fn small_job(random: &mut Random) -> Job {
+    let mut job = job_without_turns(random);
+    job.operations.truncate(random.below(8));
+    job.turns = make_turns::turns(random, &job);
+    job.turns.truncate(random.below(40));
+    job
+}
+
+fn job_without_turns(random: &mut Random) -> Job {
+    let mut file = empty_file(random);
+    let calls = pool(random, file.depth);
+    fill(random, &mut file, &calls);
+    Job {
+        operations: operations(random, &file, &calls),
+        file,
+        turns: Vec::new(),
+    }
+}
+
+/// A random directory with its pages, no records yet.
+pub fn empty_file(random: &mut Random) -> ChargeFile {
+    let depth = match random.below(3) {
+        0 => random.below(9) as u32,
+        _ => random.between(2, 8) as u32,
+    };
+    let capacity = match random.below(2) {
+        0 => random.between(1, 3),
+        _ => random.between(1, 8),
+    };
+    let all = 1usize << depth;
+    let page_count = match random.below(8) {
+        0 => random.between(1, 4),
+        1 => all,
+        2 => (all + random.below(3)).min(MAX_PAGES),
+        3 | 4 => MAX_PAGES,
+        _ => random.between(1, all),
+    };
+    let mut file = ChargeFile::empty(depth, capacity, page_count);
+    let target = match random.below(8) {
+        0..=2 => 1,
+        3 => page_count,
+        _ => random.between(1, page_count.min(24)),
+    };
+    grow(random, &mut file, target);
+    if random.percent(60) {
+        renumber(random, &mut file);
+    }
+    file
+}
+
+/// Splits empty pages until so many are in use. A deep file always splits
+/// around one entry; a shallow one anywhere.
+fn grow(random: &mut Random, file: &mut ChargeFile, target: usize) {
+    let hot = random.below(file.directory.len());
+    let deep = random.percent(40);
+    while file.in_use < target {
+        let splits = |number: &usize| file.page(*number).depth < file.depth;
+        let open: Vec<usize> = (1..=file.in_use).filter(splits).collect();
+        let Some(any) = (!open.is_empty()).then(|| random.one_of(&open)) else {
+            return;
+        };
+        let around = file.directory[hot];
+        let chosen = if deep && open.contains(&around) {
+            around
+        } else {
+            any
+        };
+        let (stays, moves) = file.page(chosen).halve();
+        file.in_use += 1;
+        for j in 0..file.directory.len() {
+            if moves.owns(j, file.depth) {
+                file.directory[j] = file.in_use;
+            }
+        }
+        *file.page_mut(chosen) = stays;
+        let new = file.in_use;
+        *file.page_mut(new) = moves;
+    }
+}
+
+/// Gives the pages in use other numbers: nothing says that a page with bit 0
+/// stands before its other half.
+fn renumber(random: &mut Random, file: &mut ChargeFile) {
+    let mut numbers: Vec<usize> = (1..=file.in_use).collect();
+    random.shuffle(&mut numbers);
+    let old = file.pages.clone();
+    for (from, to) in numbers.iter().enumerate() {
+        file.pages[to - 1] = old[from].clone();
+    }
+    for entry in &mut file.directory {
+        *entry = numbers[*entry - 1];
+    }
+}
+
+/// The call numbers that records and operations are drawn from.
+pub fn pool(random: &mut Random, depth: u32) -> Vec<u32> {
+    let any = random.word();
+    let hot = random.one_of(&[0, 1, u32::MAX, 0x5555_5555, any, any]);
+    let size = match random.below(3) {
+        0 => random.between(1, 6),
+        1 => random.between(6, 24),
+        _ => random.between(24, 120),
+    };
+    let in_a_row = random.percent(25);
+    let variety = random.one_of(&[4, 16, 256, 1 << 12]);
+    let call = |i: usize| match random.below(12) {
+        0 => random.word(),
+        1 => random.one_of(&[0, u32::MAX, 1, 1 << 31]),
+        // "Call numbers run on one by one."
+        _ if in_a_row => hot.wrapping_add(i as u32),
+        _ => {
+            let shared = random.below(depth as usize + 3) as u32;
+            let rest = random.below(variety) as u32;
+            (hot & ((1 << shared) - 1)) | rest.wrapping_shl(shared)
+        }
+    };
+    (0..size).map(call).collect()
+}
+
+/// Puts records of the pool in their pages, then brings some pages to the
+/// brim with other calls that belong there.
+fn fill(random: &mut Random, file: &mut ChargeFile, calls: &[u32]) {
+    let share = random.one_of(&[0, 30, 50, 80]);
+    for &call in calls {
+        if random.percent(share) {
+            store(random, file, call);
+        }
+    }
+    let brim = random.one_of(&[0, 20, 90]);
+    let variety = random.one_of(&[4, 256, 1 << 20]);
+    for number in 1..=file.in_use {
+        let (depth, pattern) = (file.page(number).depth, file.page(number).pattern);
+        let tries = if random.percent(brim) {
+            file.capacity
+        } else {
+            0
+        };
+        for _ in 0..tries {
+            let rest = random.below(variety) as u32;
+            store(random, file, key::call_with(pattern, depth, rest));
+        }
+    }
+}
+
+/// Stores a call in its page if it is not there and the page has room.
+fn store(random: &mut Random, file: &mut ChargeFile, call: u32) {
+    let number = file.page_of(call);
+    let full = file.page(number).records.len() == file.capacity;
+    if !full && file.page(number).find(call).is_none() {
+        let charge = charge(random);
+        file.page_mut(number).records.push(Record { call, charge });
+    }
+}
+
+/// Mostly small, sometimes at the ends: "every value of both is allowed".
+fn charge(random: &mut Random) -> u32 {
+    match random.below(8) {
+        0 => random.one_of(&[0, u32::MAX, 1 << 31]),
+        1 => random.word(),
+        _ => random.below(1000) as u32,
+    }
+}
+
+fn operations(random: &mut Random, file: &ChargeFile, calls: &[u32]) -> Vec<Operation> {
+    let count = match random.below(16) {
+        0 => random.below(2),
+        1 => random.between(60, MAX_OPERATIONS),
+        2..=6 => random.between(2, 8),
+        _ => random.between(8, 40),
+    };
+    // Searches, inserts and deletes out of a hundred.
+    let (searches, inserts) = random.one_of(&[(33, 34), (20, 70), (5, 90), (50, 40), (10, 45)]);
+    let held: Vec<u32> = file.holds().iter().map(|record| record.call).collect();
+    let operation = |_| {
+        let kind = match random.below(100) {
+            share if share < searches => Kind::Search,
+            share if share < searches + inserts => Kind::Insert,
+            _ => Kind::Delete,
+        };
+        let call = match random.below(10) {
+            0 => random.word(),
+            1 | 2 if !held.is_empty() => random.one_of(&held),
+            // A near neighbour of a call of the pool, often still missing.
+            3..=5 => random.one_of(calls) ^ (1 << random.below(file.depth as usize + 6)),
+            _ => random.one_of(calls),
+        };
+        let charge = match kind {
+            Kind::Insert => charge(random),
+            Kind::Search | Kind::Delete => 0,
+        };
+        Operation { kind, call, charge }
+    };
+    (0..count).map(operation).collect()
+}

@@ -1,0 +1,96 @@
+//! A page and its records ("The file"; "The job, byte by byte").
+
+use crate::key;
+use crate::little_endian::{four_at, push_four, push_two, two_at};
+
+/// A call with its charge in cents; "every value of both is allowed".
+#[derive(Clone, Copy, Debug, PartialEq, Eq, PartialOrd, Ord)]
+pub struct Record {
+    pub call: u32,
+    pub charge: u32,
+}
+
+/// A page: local depth, pattern of that many bits, and its records "in order
+/// of arrival". A page not in use is the page of depth 0 with no records,
+/// whose bytes are all zero.
+#[derive(Clone, Debug, Default, PartialEq, Eq)]
+pub struct Page {
+    pub depth: u32,
+    pub pattern: u32,
+    pub records: Vec<Record>,
+}
+
+/// "Page, 4 + 8c bytes".
+pub fn page_length(capacity: usize) -> usize {
+    4 + 8 * capacity
+}
+
+impl Page {
+    /// The record of a call, if the page has one.
+    pub fn find(&self, call: u32) -> Option<Record> {
+        self.records.iter().copied().find(|r| r.call == call)
+    }
+
+    /// "Insert appends": the records keep their order of arrival.
+    pub fn append(&self, record: Record) -> Page {
+        let mut page = self.clone();
+        page.records.push(record);
+        page
+    }
+
+    /// "Delete closes the gap": the later records move up one place.
+    pub fn remove(&self, call: u32) -> Page {
+        let mut page = self.clone();
+        page.records.retain(|r| r.call != call);
+        page
+    }
+
+    /// One split: "the split page keeps bit 0, a new page gets bit 1, both
+    /// keep their order". Both are one bit deeper.
+    pub fn halve(&self) -> (Page, Page) {
+        let goes_over = |r: &&Record| key::leading_bit(r.call, self.depth);
+        let half = |bit: u32, records: Vec<Record>| Page {
+            depth: self.depth + 1,
+            pattern: 2 * self.pattern + bit,
+            records,
+        };
+        let stays = self.records.iter().filter(|r| !goes_over(r));
+        let moves = self.records.iter().filter(goes_over);
+        (
+            half(0, stays.copied().collect()),
+            half(1, moves.copied().collect()),
+        )
+    }
+
+    /// Whether the page's pattern begins entry `j`.
+    pub fn owns(&self, j: usize, global: u32) -> bool {
+        key::begins(self.pattern, self.depth, j, global)
+    }
+
+    /// "l (1), record count (1), pattern (2), then records of call number and
+    /// charge". "A record no longer used ... is zero", so the rest is zeros.
+    pub fn to_bytes(&self, capacity: usize) -> Vec<u8> {
+        assert!(self.records.len() <= capacity, "page over its capacity");
+        let mut bytes = vec![self.depth as u8, self.records.len() as u8];
+        push_two(&mut bytes, self.pattern as usize);
+        for record in &self.records {
+            push_four(&mut bytes, record.call);
+            push_four(&mut bytes, record.charge);
+        }
+        bytes.resize(page_length(capacity), 0);
+        bytes
+    }
+
+    /// Reads a page whose count is within its capacity.
+    pub fn from_bytes(bytes: &[u8]) -> Page {
+        let record = |k: usize| Record {
+            call: four_at(bytes, 4 + 8 * k),
+            charge: four_at(bytes, 8 + 8 * k),
+        };
+        Page {
+            depth: u32::from(bytes[0]),
+            pattern: two_at(bytes, 2) as u32,
+            records: (0..usize::from(bytes[1])).map(record).collect(),
+        }
+    }
+}

@@ -1,0 +1,201 @@
+//! The refusal table once more, by brute force: every fault of a job is
+//! collected, and the least number with the least place is the refusal.
+//! Patterns are compared as texts of 0 and 1, so that no shift or mask is
+//! shared with the other checker.
+
+/// A refusal: number and place.
+pub type Refusal = (u32, u32);
+
+/// The refusal of a job by rows 1 to 10.
+pub fn first_fault(job: &[u8]) -> Option<Refusal> {
+    all_faults(job).into_iter().min()
+}
+
+/// All faults that can be told apart. A later section has no place before the
+/// header is sound, and an entry has no page before entries and pages are.
+pub fn all_faults(job: &[u8]) -> Vec<Refusal> {
+    if job.len() < 32 {
+        return vec![(1, job.len() as u32)];
+    }
+    let mut faults = header_faults(job);
+    if faults.is_empty() {
+        let sections = Sections::of(job);
+        faults.extend(entry_faults(job, &sections));
+        faults.extend(page_faults(job, &sections));
+        if faults.is_empty() {
+            faults.extend(owner_faults(job, &sections));
+            faults.extend(record_faults(job, &sections));
+        }
+        faults.extend(operation_faults(job, &sections));
+        faults.extend(turn_faults(job, &sections));
+    }
+    faults
+}
+
+fn number(job: &[u8], place: usize, width: usize) -> usize {
+    let bytes = &job[place..place + width];
+    let worth = |(step, byte): (usize, &u8)| 256usize.pow(step as u32) * usize::from(*byte);
+    bytes.iter().enumerate().map(worth).sum()
+}
+
+fn header_faults(job: &[u8]) -> Vec<Refusal> {
+    let mut faults = Vec::new();
+    if job[..2] != [1, 0] {
+        faults.push((2, 0));
+    }
+    let page_count = number(job, 4, 2);
+    for (place, width, least, most) in [
+        (2, 1, 0, 8),
+        (3, 1, 1, 8),
+        (4, 2, 1, 256),
+        (6, 2, 1, page_count),
+        (8, 2, 0, 256),
+        (10, 2, 0, 16_384),
+    ] {
+        let value = number(job, place, width);
+        if value < least || value > most {
+            faults.push((3, place as u32));
+        }
+    }
+    if faults.is_empty() {
+        let sections = Sections::of(job);
+        for (step, offset) in sections.0.iter().enumerate() {
+            let place = 12 + 4 * step;
+            if number(job, place, 4) != *offset {
+                faults.push((4, place as u32));
+            }
+        }
+        if job.len() != sections.0[4] {
+            faults.push((4, 28));
+        }
+    }
+    faults
+}
+
+/// The offsets of the four sections, and the total.
+struct Sections([usize; 5]);
+
+impl Sections {
+    fn of(job: &[u8]) -> Sections {
+        let entries = (0..job[2]).fold(1, |entries, _| entries + entries);
+        let lengths = [
+            2 * entries,
+            number(job, 4, 2) * page_length(job),
+            10 * number(job, 8, 2),
+            2 * number(job, 10, 2),
+        ];
+        let mut offsets = [32; 5];
+        for (step, length) in lengths.iter().enumerate() {
+            offsets[step + 1] = offsets[step] + length;
+        }
+        Sections(offsets)
+    }
+
+    /// The places of the rows of a section.
+    fn rows(&self, section: usize, length: usize) -> impl Iterator<Item = usize> {
+        (self.0[section]..self.0[section + 1]).step_by(length)
+    }
+}
+
+fn page_length(job: &[u8]) -> usize {
+    4 + 8 * usize::from(job[3])
+}
+
+fn in_use(job: &[u8]) -> usize {
+    number(job, 6, 2)
+}
+
+/// The places of the pages in use.
+fn pages(job: &[u8], sections: &Sections) -> Vec<usize> {
+    let rows = sections.rows(1, page_length(job));
+    rows.take(in_use(job)).collect()
+}
+
+/// A number as a text of so many bits.
+fn bits(number: usize, count: usize) -> String {
+    let bit = |position: usize| char::from(b'0' + (number / 2usize.pow(position as u32) % 2) as u8);
+    (0..count).rev().map(bit).collect()
+}
+
+/// A page's pattern as a text.
+fn pattern(job: &[u8], page: usize) -> String {
+    bits(number(job, page + 2, 2), usize::from(job[page]))
+}
+
+fn entry_faults(job: &[u8], sections: &Sections) -> Vec<Refusal> {
+    let wrong = |place: &usize| {
+        let entry = number(job, *place, 2);
+        entry == 0 || entry > in_use(job)
+    };
+    let places = sections.rows(0, 2).filter(wrong);
+    places.map(|place| (5, place as u32)).collect()
+}
+
+fn page_faults(job: &[u8], sections: &Sections) -> Vec<Refusal> {
+    let mut faults = Vec::new();
+    let length = page_length(job);
+    for (before, place) in sections.rows(1, length).enumerate() {
+        let page = &job[place..place + length];
+        let zero = |bytes: &[u8]| bytes.iter().map(|byte| u32::from(*byte)).sum::<u32>() == 0;
+        let sound = if before >= in_use(job) {
+            zero(page)
+        } else {
+            page[0] <= job[2]
+                && number(page, 2, 2) < 2usize.pow(u32::from(page[0]))
+                && page[1] <= job[3]
+                && zero(&page[4 + 8 * usize::from(page[1])..])
+        };
+        if !sound {
+            faults.push((6, place as u32));
+        }
+    }
+    faults
+}
+
+fn owner_faults(job: &[u8], sections: &Sections) -> Vec<Refusal> {
+    let mut faults = Vec::new();
+    let pages = pages(job, sections);
+    let patterns: Vec<String> = pages.iter().map(|page| pattern(job, *page)).collect();
+    for (j, place) in sections.rows(0, 2).enumerate() {
+        let index = bits(j, usize::from(job[2]));
+        let owns = |page: &usize| index.starts_with(&patterns[page - 1]);
+        let owners: Vec<usize> = (1..=pages.len()).filter(owns).collect();
+        if owners != [number(job, place, 2)] {
+            faults.push((7, place as u32));
+        }
+    }
+    faults
+}
+
+fn record_faults(job: &[u8], sections: &Sections) -> Vec<Refusal> {
+    let mut faults = Vec::new();
+    for page in pages(job, sections) {
+        let mut earlier = Vec::new();
+        for k in 0..usize::from(job[page + 1]) {
+            let place = page + 4 + 8 * k;
+            let call = number(job, place, 4);
+            let key: String = bits(call, 32).chars().rev().collect();
+            if !key.starts_with(&pattern(job, page)) || earlier.contains(&call) {
+                faults.push((8, place as u32));
+            }
+            earlier.push(call);
+        }
+    }
+    faults
+}
+
+fn operation_faults(job: &[u8], sections: &Sections) -> Vec<Refusal> {
+    let wrong = |place: &usize| {
+        let row = &job[*place..place + 10];
+        let must_be_zero = if row[0] == 2 { 1..2 } else { 6..10 };
+        !matches!(row[0], 1..=3) || row[1] != 0 || row[must_be_zero].iter().any(|byte| *byte != 0)
+    };
+    let places = sections.rows(2, 10).filter(wrong);
+    places.map(|place| (9, place as u32)).collect()
+}
+
+fn turn_faults(job: &[u8], sections: &Sections) -> Vec<Refusal> {
+    let wrong = |place: &usize| number(job, *place, 2) >= number(job, 8, 2);
+    let places = sections.rows(3, 2).filter(wrong);
+    places.map(|place| (10, place as u32)).collect()
+}

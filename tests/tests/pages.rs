@@ -1,0 +1,153 @@
+//! Pseudo keys, pages and splits on their own ("The file"; "Insert into a full
+//! page").
+
+use chargefile_tests::key::{begins, call_with, index, pseudo_key, shared_bits};
+use chargefile_tests::page::{page_length, Page, Record};
+use chargefile_tests::random::Random;
+use chargefile_tests::seeds::each_seed;
+use chargefile_tests::split::{new_pages_needed, split, Full, Split};
+
+const PAGES: u64 = 20_000;
+
+#[test]
+fn keys_agree_with_the_machine() {
+    each_seed(PAGES, |seed| {
+        let random = &mut Random::new(seed, "keys");
+        let (one, other) = (random.word(), random.word() << random.below(32));
+        assert_eq!(pseudo_key(one), one.reverse_bits());
+        assert_eq!(pseudo_key(pseudo_key(one)), one);
+        let near = one ^ other;
+        assert_eq!(shared_bits(one, near), other.leading_zeros());
+        assert_eq!(shared_bits(one, one), 32);
+        for depth in 1..=8 {
+            let first = (one.reverse_bits() >> (32 - depth)) as usize;
+            assert_eq!(index(one, depth), first);
+            assert!(begins(first as u32, depth, first, depth));
+            let made = call_with(first as u32, depth, other);
+            assert_eq!(index(made, depth), first);
+        }
+        assert_eq!(index(one, 0), 0);
+    });
+}
+
+/// A page with random records that belong in it.
+fn random_page(random: &mut Random, global: u32, count: usize) -> Page {
+    let depth = random.below(global as usize + 1) as u32;
+    let pattern = random.below(1 << depth) as u32;
+    let mut page = Page {
+        depth,
+        pattern,
+        records: Vec::new(),
+    };
+    let variety = random.one_of(&[16, 1 << 10, 1 << 20]);
+    let deeper = random.below(global as usize - depth as usize + 1) as u32;
+    let hot = random.word() & ((1 << deeper) - 1);
+    while page.records.len() < count {
+        let rest = hot | (random.below(variety) as u32) << deeper;
+        let call = call_with(pattern, depth, rest);
+        if page.find(call).is_none() {
+            let charge = random.word();
+            page.records.push(Record { call, charge });
+        }
+    }
+    page
+}
+
+fn calls(page: &Page) -> Vec<u32> {
+    page.records.iter().map(|record| record.call).collect()
+}
+
+#[test]
+fn find_append_and_remove() {
+    each_seed(PAGES, |seed| {
+        let random = &mut Random::new(seed, "pages");
+        let capacity = random.between(1, 8);
+        let count = random.below(capacity + 1);
+        let page = random_page(random, 8, count);
+        let bytes = page.to_bytes(capacity);
+        assert_eq!(bytes.len(), page_length(capacity));
+        assert_eq!(Page::from_bytes(&bytes), page);
+        assert!(bytes[4 + 8 * count..].iter().all(|byte| *byte == 0));
+
+        for (k, record) in page.records.iter().enumerate() {
+            assert_eq!(page.find(record.call), Some(*record));
+            let without = page.remove(record.call);
+            assert_eq!(without.find(record.call), None);
+            assert_eq!(without.records[..k], page.records[..k]);
+            assert_eq!(without.records[k..], page.records[k + 1..]);
+            let back = without.append(*record);
+            assert_eq!(back.records.last(), Some(record));
+            assert_eq!(back.records.len(), count);
+        }
+    });
+}
+
+#[test]
+fn the_shared_bits_settle_the_split() {
+    let (mut by_number, mut no_depth, mut largest) = ([0; 9], 0, 0);
+    let whole = each_seed(PAGES, |seed| {
+        let random = &mut Random::new(seed, "splits");
+        let global = random.below(9) as u32;
+        let capacity = random.between(1, 8);
+        let mut page = random_page(random, global, capacity + 1);
+        // One record too many: the last to come is the one to be inserted.
+        let record = page.records.pop().unwrap();
+        let in_use = random.between(1, 200);
+        let all_alike = |r: &Record| index(r.call, global) == index(record.call, global);
+        let Some(needed) = new_pages_needed(&page, record.call, global) else {
+            assert!(page.records.iter().all(all_alike), "no depth");
+            no_depth += 1;
+            return;
+        };
+        assert!(!page.records.iter().all(all_alike));
+        let number = random.between(1, in_use);
+        let full = Full {
+            number,
+            page: &page,
+            global,
+            in_use,
+        };
+        let split = split(full, record, capacity);
+        assert_eq!(split.new.len(), needed);
+        assert!(needed <= (global - page.depth) as usize, "at most g - l");
+        largest = largest.max(needed);
+        by_number[needed] += 1;
+        split_is_right(&full, record, capacity, &split);
+    });
+    if whole {
+        println!("splits by new pages: {by_number:?}, no depth: {no_depth}");
+        assert_eq!(largest, 8, "g - l with g 8 and l 0");
+        assert!(no_depth >= 1_000 && by_number[1..=4].iter().all(|n| *n >= 500));
+    }
+}
+
+/// What must hold of a split, without asking how it was worked out.
+fn split_is_right(full: &Full, record: Record, capacity: usize, split: &Split) {
+    let mut pages = vec![(full.number, &split.old)];
+    pages.extend(split.new.iter().map(|(number, page)| (*number, page)));
+    for (step, (number, _)) in split.new.iter().enumerate() {
+        assert_eq!(*number, full.in_use + 1 + step, "in order of the splits");
+    }
+    let arrived = full.page.append(record);
+    for (number, page) in &pages {
+        assert!(page.records.len() <= capacity);
+        // Each page has just the records its pattern asks for, in the order in
+        // which they came.
+        let mine = |call: &u32| index(*call, page.depth) == page.pattern as usize;
+        let wanted: Vec<u32> = calls(&arrived).into_iter().filter(mine).collect();
+        assert_eq!(calls(page), wanted);
+        assert_eq!(*number == split.home, wanted.contains(&record.call));
+    }
+    for j in 0..1usize << full.global {
+        let owners = pages
+            .iter()
+            .filter(|(_, page)| page.owns(j, full.global))
+            .count();
+        assert_eq!(owners, usize::from(full.page.owns(j, full.global)));
+        let to = split.changed.iter().find(|(entry, _)| *entry == j);
+        let moved = split.new.iter().find(|(_, page)| page.owns(j, full.global));
+        assert_eq!(to.map(|(_, to)| to), moved.map(|(number, _)| number));
+    }
+    let rising = split.changed.windows(2).all(|pair| pair[0].0 < pair[1].0);
+    assert!(rising, "by rising index");
+}

@@ -1,0 +1,251 @@
+//! Turn by turn: small runs followed by hand ("Turns"; "The result").
+
+use chargefile_tests::answer::{Code, Line};
+use chargefile_tests::file::ChargeFile;
+use chargefile_tests::job::{Job, Kind, Operation};
+use chargefile_tests::page::Record;
+use chargefile_tests::run::Run;
+use chargefile_tests::turn::Turned;
+
+const SEARCH: Kind = Kind::Search;
+const INSERT: Kind = Kind::Insert;
+const DELETE: Kind = Kind::Delete;
+
+/// A run of a file of one page. An insert's charge is ten times its call.
+fn start(depth: u32, page_count: usize, calls: &[u32], operations: &[(Kind, u32)]) -> Run {
+    let mut file = ChargeFile::empty(depth, 2, page_count);
+    for &call in calls {
+        let charge = 100 + call;
+        file.page_mut(1).records.push(Record { call, charge });
+    }
+    let operation = |&(kind, call): &(Kind, u32)| Operation {
+        kind,
+        call,
+        charge: if kind == INSERT { 10 * call } else { 0 },
+    };
+    Run::new(&Job {
+        file,
+        operations: operations.iter().map(operation).collect(),
+        turns: Vec::new(),
+    })
+}
+
+/// Code, charge and turns used of an operation.
+fn answer(run: &Run, operation: usize) -> (Code, u32, usize) {
+    let answer = run.answers()[operation];
+    (answer.code, answer.charge, answer.turns)
+}
+
+fn log(run: &Run) -> Vec<(usize, usize)> {
+    let pair = |line: &Line| (line.moment, line.operation);
+    run.log().iter().map(pair).collect()
+}
+
+fn calls(run: &Run, page: usize) -> Vec<u32> {
+    let records = &run.shared.file.page(page).records;
+    records.iter().map(|record| record.call).collect()
+}
+
+#[test]
+fn a_plain_insert_takes_six_turns() {
+    let mut run = start(1, 1, &[2], &[(INSERT, 4)]);
+    run.deal_all(&[0; 4]);
+    assert_eq!(
+        answer(&run, 0),
+        (Code::NotYet, 0, 4),
+        "decided, not written"
+    );
+    run.deal(0);
+    assert_eq!(answer(&run, 0), (Code::Stored, 40, 5));
+    assert_eq!((calls(&run, 1), run.under_way()), (vec![2, 4], 1));
+    run.deal(0);
+    assert_eq!((run.under_way(), log(&run)), (0, vec![(4, 0)]));
+    assert_eq!(run.deal(0), Turned::Idle);
+    assert_eq!(answer(&run, 0), (Code::Stored, 40, 6));
+}
+
+#[test]
+fn waiting_turns_are_not_counted() {
+    let mut run = start(1, 1, &[2], &[(DELETE, 2), (DELETE, 2)]);
+    run.deal_all(&[0, 1, 0]);
+    for _ in 0..5 {
+        assert!(!run.can_use_a_turn(1));
+        assert_eq!(run.deal(1), Turned::Waited);
+    }
+    run.deal_all(&[0, 0, 0]);
+    assert_eq!(run.deal(1), Turned::Waited, "written, but still locked");
+    run.deal_all(&[0, 1, 1, 1, 1]);
+    assert_eq!(answer(&run, 0), (Code::Deleted, 102, 6));
+    assert_eq!(answer(&run, 1), (Code::Absent, 0, 5));
+    assert_eq!(log(&run), [(10, 0), (15, 1)]);
+}
+
+#[test]
+fn a_duplicate_lets_go_of_its_page() {
+    let mut run = start(0, 1, &[2, 3], &[(INSERT, 3), (DELETE, 2)]);
+    run.deal_all(&[0, 0, 0, 0]);
+    assert_eq!(answer(&run, 0), (Code::AlreadyThere, 103, 4));
+    assert!(run.shared.locked(1));
+    run.deal(0);
+    assert!(!run.shared.locked(1));
+    run.deal_all(&[1; 6]);
+    assert_eq!(answer(&run, 1), (Code::Deleted, 102, 6));
+}
+
+#[test]
+fn a_delete_closes_the_gap() {
+    let mut run = start(0, 1, &[7, 9], &[(DELETE, 7)]);
+    run.deal_all(&[0; 6]);
+    let page = run.shared.file.page(1).to_bytes(2);
+    assert_eq!(page[..12], [0, 1, 0, 0, 9, 0, 0, 0, 109, 0, 0, 0]);
+    assert_eq!(page[12..], [0; 8]);
+}
+
+/// Calls 2, 4 and 6 have index 0, calls 1 and 3 index 1. The insert of 4
+/// splits page 1 while the delete of 3 holds what it read before.
+#[test]
+fn a_retry_unlocks_the_page_held_and_locks_the_page_just_read() {
+    let mut run = start(1, 2, &[2, 3], &[(INSERT, 4), (DELETE, 3)]);
+    run.deal(1);
+    run.deal_all(&[0; 9]);
+    assert_eq!(run.unfinished().count(), 1);
+    run.deal(1);
+    assert!(run.shared.locked(1) && !run.shared.locked(2), "(b)");
+    run.deal(1);
+    assert!(run.shared.locked(1), "(c) names page 2, page 1 still held");
+    run.deal(1);
+    assert!(!run.shared.locked(1) && !run.shared.locked(2), "unlocked");
+    run.deal(1);
+    assert!(!run.shared.locked(1) && run.shared.locked(2), "(b) again");
+    run.deal_all(&[1, 1, 1, 1]);
+    assert_eq!(answer(&run, 1), (Code::Deleted, 103, 9));
+    assert_eq!(log(&run), [(8, 0), (16, 1)]);
+}
+
+/// The call goes to the new page, so the code is set when its own entry is
+/// written, two turns before the old page is.
+#[test]
+fn stored_in_a_new_page_is_known_at_its_own_entry() {
+    let mut run = start(1, 2, &[2, 3], &[(INSERT, 5)]);
+    run.deal_all(&[0; 5]);
+    assert_eq!(calls(&run, 2), [3, 5], "the new page is written");
+    assert_eq!(answer(&run, 0), (Code::NotYet, 0, 5));
+    run.deal(0);
+    assert_eq!(answer(&run, 0), (Code::Stored, 50, 6));
+    assert_eq!((run.under_way(), log(&run)), (1, vec![(5, 0)]));
+    assert_eq!(calls(&run, 1), [2, 3], "the old page is not yet written");
+    run.deal_all(&[0, 0, 0]);
+    assert_eq!((run.under_way(), calls(&run, 1)), (0, vec![2]));
+}
+
+/// g 3; calls 0 and 8 share their first three bits with each other, and two of
+/// them with call 4: the old page is split three times in a row.
+#[test]
+fn a_split_goes_step_by_step() {
+    let mut run = start(3, 4, &[0, 8], &[(INSERT, 4), (INSERT, 4)]);
+    run.deal_all(&[0, 0, 0]);
+    assert_eq!(run.shared.file.in_use, 1);
+    run.deal(0);
+    assert_eq!(run.shared.file.in_use, 4, "taken on turn (d)");
+    assert!((1..=4).all(|page| run.shared.locked(page)));
+    run.deal_all(&[0, 0, 0]);
+    let shapes = [2, 3, 4].map(|page| {
+        let page = run.shared.file.page(page);
+        (page.depth, page.pattern, page.records.len())
+    });
+    assert_eq!(shapes, [(1, 1, 0), (2, 1, 0), (3, 1, 1)]);
+    let changes = [(1, 4), (2, 3), (3, 3), (4, 2), (5, 2), (6, 2), (7, 2)];
+    let mut directory = vec![1; 8];
+    for (entry, page) in changes {
+        run.deal(0);
+        directory[entry] = page;
+        assert_eq!(run.shared.file.directory, directory);
+    }
+    assert_eq!(answer(&run, 0), (Code::Stored, 40, 14));
+    // The new pages are locked until all of them are unlocked at once.
+    run.deal_all(&[1, 1]);
+    assert_eq!(answer(&run, 1), (Code::NotYet, 0, 1));
+    run.deal(0);
+    assert!((2..=4).all(|page| !run.shared.locked(page)) && run.shared.locked(1));
+    run.deal_all(&[1, 1, 1]);
+    assert_eq!(answer(&run, 1), (Code::AlreadyThere, 40, 4));
+    run.deal_all(&[0, 0, 1]);
+    assert_eq!(run.unfinished().count(), 0);
+    assert_eq!(log(&run), [(7, 0), (19, 1)]);
+    assert_eq!(calls(&run, 1), [0, 8]);
+}
+
+#[test]
+fn a_search_reads_on_where_its_entry_leads_now() {
+    let operations = [(INSERT, 4), (SEARCH, 3), (SEARCH, 7)];
+    let mut run = start(1, 2, &[2, 3], &operations);
+    run.deal_all(&[1, 2]);
+    run.deal_all(&[0; 9]);
+    run.deal_all(&[1, 2, 1, 2]);
+    assert_eq!(answer(&run, 1), (Code::NotYet, 0, 3));
+    run.deal_all(&[1, 2]);
+    assert_eq!(answer(&run, 1), (Code::Found, 103, 4));
+    assert_eq!(answer(&run, 2), (Code::NotYet, 0, 4), "not yet known");
+    run.deal(2);
+    assert_eq!(answer(&run, 2), (Code::None, 0, 5));
+    assert_eq!(log(&run), [(9, 0), (15, 1), (16, 2)]);
+}
+
+/// The search reads the old page after its entry has left it: it is as if it
+/// had read on the turn of that change, before the delete.
+#[test]
+fn a_late_reader_stands_where_its_entry_was_changed() {
+    let operations = [(INSERT, 4), (SEARCH, 3), (DELETE, 3), (SEARCH, 2)];
+    let mut run = start(1, 2, &[2, 3], &operations);
+    run.deal_all(&[1, 3]);
+    run.deal_all(&[0; 7]);
+    run.deal_all(&[2; 6]);
+    run.deal_all(&[1, 3]);
+    assert_eq!(answer(&run, 1), (Code::Found, 103, 2));
+    assert_eq!(answer(&run, 3), (Code::Found, 102, 2));
+    // Turn 7 wrote entry 1; entry 0 still names page 1 on turn 16.
+    assert_eq!(log(&run), [(7, 1), (13, 2), (16, 3)]);
+}
+
+#[test]
+fn no_depth_comes_before_no_page_and_already_there_before_both() {
+    let operations = [(INSERT, 5), (INSERT, 9), (INSERT, 3)];
+    let mut run = start(2, 1, &[1, 5], &operations);
+    for operation in 0..3 {
+        run.deal_all(&[operation; 5]);
+    }
+    assert_eq!(answer(&run, 0), (Code::AlreadyThere, 105, 5));
+    assert_eq!(answer(&run, 1), (Code::NoDepth, 0, 5));
+    assert_eq!(answer(&run, 2), (Code::NoPage, 0, 5));
+    assert_eq!(log(&run), [(3, 0), (8, 1), (13, 2)]);
+}
+
+/// Of two inserts that need the last page, the one whose turn (d) is first
+/// gets it, though it began later.
+#[test]
+fn pages_are_counted_on_turn_d() {
+    let mut file = ChargeFile::empty(2, 1, 3);
+    file.in_use = 2;
+    file.directory = vec![1, 1, 2, 2];
+    for (number, call) in [(1, 0), (2, 1)] {
+        let page = file.page_mut(number);
+        (page.depth, page.pattern) = (1, number as u32 - 1);
+        page.records.push(Record { call, charge: 0 });
+    }
+    let insert = |call| Operation {
+        kind: INSERT,
+        call,
+        charge: 1,
+    };
+    let mut run = Run::new(&Job {
+        file,
+        operations: vec![insert(2), insert(3)],
+        turns: Vec::new(),
+    });
+    run.deal_all(&[0, 0, 0, 1, 1, 1, 1, 0]);
+    assert_eq!(answer(&run, 0), (Code::NoPage, 0, 4));
+    assert_eq!(answer(&run, 1), (Code::NotYet, 0, 4));
+    assert_eq!(run.shared.file.in_use, 3);
+    run.deal_all(&[1; 5]);
+    assert_eq!(answer(&run, 1), (Code::Stored, 1, 9));
+}
