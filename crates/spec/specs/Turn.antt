@@ -44,6 +44,12 @@ newCount f op x = length (planOf f op x .news)
 unfoldable pub goesTo : File → Op → ℕ → ℕ → ℕ → ℕ
 goesTo f op x b j = newOwner (f .g) (planOf f op x .news) (suc b) j
 
+-- the writing of the first changed entry from j on, or, where there is none, the unlocking of the new pages
+unfoldable pub entriesFrom : File → Op → ℕ → ℕ → ℕ → Part
+entriesFrom f op x b j =
+    let k : ℕ = nextEntry (2 ^ f .g - j) f x b (planOf f op x .news) j in
+    if (ltb k (2 ^ f .g)) (WriteEntry k) UnlockNew
+
 -- "Search: read its entry"; "Insert and delete: (a) read the entry"
 unfoldable pub begin : Kind → ℕ → Stage
 begin Search x = ReadPage x
@@ -128,12 +134,6 @@ heldTurn s op x Decide = decided s op x (op .kind) (findIn (pageAt (s .file) x .
 heldTurn s op x WritePage = written s op x (op .kind) (pageAt (s .file) x)
 heldTurn s op x WriteOld = oldWritten s op x
 heldTurn s op x Unlock = goLock Done x 1 false 0
-
--- the writing of the first changed entry from j on, or, where there is none, the unlocking of the new pages
-unfoldable pub entriesFrom : File → Op → ℕ → ℕ → ℕ → Part
-entriesFrom f op x b j =
-    let k : ℕ = nextEntry (2 ^ f .g - j) f x b (planOf f op x .news) j in
-    if (ltb k (2 ^ f .g)) (WriteEntry k) UnlockNew
 
 -- "Then one turn for each new page written, one for each changed entry by rising index, one unlocking all new pages": the turn of an operation
 -- that holds page x and the new pages b + 1 to b + n. "stored, .. else the writing of the call's own entry"

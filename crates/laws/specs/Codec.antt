@@ -1,0 +1,29 @@
+-- The laws of the bytes: a file for each theme, those that others rest on first.
+-- tools: tests that do not hold, walks over a list, parts of a byte string and their places, numbers in bytes
+pub mod Tools
+pub mod Walk
+pub mod Parts
+pub mod Numbers
+pub mod Pieces
+pub mod Places
+-- what each row of the refusal table says where it does not hold
+pub mod Rows
+pub mod InUse
+pub mod Owner
+pub mod Records
+pub mod Pages
+pub mod Ops
+-- an accepted job
+pub mod Accepted
+-- written and read, read and written
+pub mod Sections
+pub mod Back
+pub mod Forth
+-- proper jobs are accepted, and accepted jobs are proper
+pub mod Proper
+pub mod Sizes
+pub mod Written
+pub mod AsBytes
+pub mod Exact
+-- a job with no turns
+pub mod Quiet

@@ -1,0 +1,71 @@
+-- Numbers in bytes: a number of 2 or 4 bytes that fits comes back, and what is read of bytes fits.
+use Prim.Native.Nat.{ℕ, zero, suc, _+_, _*_, _<_, _≤_}
+use mathlib.Core.Path.{_≡_, refl}
+use mathlib.Core.List.{List, [], _∷_, _++_}
+use mathlib.Core.Bool.{true, and-eq-true-iff}
+use native.Mathlib.Omega.{arith}
+use lib.ListN.{length, take, drop, replicate}
+use Rattle.spec.specs.Bytes.{AreBytes, end, next, byte, word, long, two, four, parts, zeros}
+use Rattle.spec.specs.Proper.{Each, end as eachEnd, next as eachNext}
+use Rattle.laws.specs.Codec.Tools.{eqb-yes, each-imp₂}
+use Rattle.laws.specs.Codec.Parts.{parts-size}
+
+-- a number that fits comes back
+pub word-two : (n : ℕ) (post : List ℕ) → n < 65536 → word (two n ++ post) 0 ≡ n
+unfolding word byte two
+word-two n post l = omega arith
+
+pub long-four : (n : ℕ) (post : List ℕ) → n < 4294967296 → long (four n ++ post) 0 ≡ n
+unfolding long word byte four two
+long-four n post l = omega arith
+
+-- what is read of bytes fits
+pub byte-lt : (b : List ℕ) → AreBytes b → (p : ℕ) → byte b p < 256
+unfolding byte
+byte-lt [] end p = omega arith
+byte-lt (x ∷ b) (next h t) zero = h
+byte-lt (x ∷ b) (next h t) (suc p) = byte-lt b t p
+
+pub word-lt : (b : List ℕ) → AreBytes b → (p : ℕ) → word b p < 65536
+unfolding word
+word-lt b h p = let s = byte-lt b h p in let t = byte-lt b h (p + 1) in omega arith
+
+pub long-lt : (b : List ℕ) → AreBytes b → (p : ℕ) → long b p < 4294967296
+unfolding long
+long-lt b h p = let s = word-lt b h p in let t = word-lt b h (p + 2) in omega arith
+
+-- the parts of bytes are bytes
+take-bytes : (n : ℕ) (b : List ℕ) → AreBytes b → AreBytes (take n b)
+take-bytes zero b h = end
+take-bytes (suc n) [] end = end
+take-bytes (suc n) (x ∷ b) (next h t) = next h (take-bytes n b t)
+
+pub drop-bytes : (n : ℕ) (b : List ℕ) → AreBytes b → AreBytes (drop n b)
+drop-bytes zero b h = h
+drop-bytes (suc n) [] end = end
+drop-bytes (suc n) (x ∷ b) (next h t) = drop-bytes n b t
+
+pub parts-bytes : (n size : ℕ) (b : List ℕ) → AreBytes b → Each AreBytes (parts n size b)
+unfolding parts
+parts-bytes zero size b h = eachEnd
+parts-bytes (suc n) size b h = eachNext (take-bytes size b h) (parts-bytes n size (drop size b) (drop-bytes size b h))
+
+-- a part of n bytes
+pub record Whole (n : ℕ) (p : List ℕ) : Type 0 where
+  pub size : length p ≡ n
+  pub bytes : AreBytes p
+
+pub parts-whole : (n size : ℕ) (b : List ℕ) → AreBytes b → size * n ≤ length b → Each (Whole size) (parts n size b)
+parts-whole n size b h l = each-imp₂ (λ p s t. record { size = s; bytes = t }) (parts-size n size b l) (parts-bytes n size b h)
+
+-- zeros
+pub zeros-byte : (b : List ℕ) → zeros b ≡ true → (p : ℕ) → byte b p ≡ 0
+unfolding zeros byte
+zeros-byte [] e p = refl
+zeros-byte (x ∷ b) e zero = (simp (and-eq-true-iff, eqb-yes) at e) .0
+zeros-byte (x ∷ b) e (suc p) = zeros-byte b ((simp and-eq-true-iff at e) .1) p
+
+pub zeros-replicate : (n : ℕ) → zeros (replicate n 0) ≡ true
+unfolding zeros
+zeros-replicate zero = refl
+zeros-replicate (suc n) = zeros-replicate n

@@ -1,0 +1,96 @@
+-- A walk over a list, member by member: what `firstOf` and `anyOf` say by places. The laws are about walks that count from 0; one that counts
+-- from 1 is such a walk too (`first-from-1`, `any-from-1`).
+use Prim.Native.Nat.{ℕ, zero, suc, _<_}
+use mathlib.Core.Path.{_≡_, refl, ap}
+use mathlib.Core.Logic.{_↔_, Iff·rfl}
+use mathlib.Core.List.{List, [], _∷_}
+use mathlib.Core.Bool.{Bool, true, false, _||_}
+use mathlib.Core.Option.{Option, none, some}
+use native.Mathlib.Omega.{arith}
+use lib.ListN.{length, getD}
+use Rattle.spec.specs.Basics.{orElse, firstOf, anyOf}
+use Rattle.spec.specs.Proper.{Each, end}
+use Rattle.laws.specs.Codec.Tools.{or-no, orElse-none, each-cons}
+
+module _ {A : Type 0} where
+  -- of a statement about the first member and one about the later, one about every place; and back
+  pub by-places
+      : (P : ℕ → A → Type 0) (x : A) (xs : List A) (d : A)
+      → P 0 x × ((k : ℕ) → k < length xs → P (suc k) (getD xs k d)) ↔ ((k : ℕ) → k < length (x ∷ xs) → P k (getD (x ∷ xs) k d))
+  by-places P x xs d = (there, λ h. (h zero (omega arith), λ k l. h (suc k) (omega arith)))
+    where
+      there : P 0 x × ((k : ℕ) → k < length xs → P (suc k) (getD xs k d)) → (k : ℕ) → k < suc (length xs) → P k (getD (x ∷ xs) k d)
+      there h zero l = h .0
+      there h (suc k) l = h .1 k (omega arith)
+
+  first-next : (f : ℕ → A → Option ℕ) (i : ℕ) (xs : List A) → firstOf f (suc i) xs ≡ firstOf (λ k. f (suc k)) i xs
+  unfolding firstOf
+  first-next f i [] = refl
+  first-next f i (x ∷ xs) = ap (orElse (f (suc i) x)) (first-next f (suc i) xs)
+
+  pub first-from-1 : (f : ℕ → A → Option ℕ) (xs : List A) → firstOf f 1 xs ≡ firstOf (λ k. f (suc k)) 0 xs
+  first-from-1 f xs = first-next f 0 xs
+
+  first-nil : (f : ℕ → A → Option ℕ) → firstOf f 0 [] ≡ none
+  unfolding firstOf
+  first-nil f = refl
+
+  first-cons : (f : ℕ → A → Option ℕ) (x : A) (xs : List A) → firstOf f 0 (x ∷ xs) ≡ orElse (f 0 x) (firstOf (λ k. f (suc k)) 0 xs)
+  unfolding firstOf
+  first-cons f x xs = ap (orElse (f 0 x)) (first-next f 0 xs)
+
+  -- nothing is found exactly if no member gives a place
+  pub first-none
+      : (f : ℕ → A → Option ℕ) (xs : List A) (d : A) → firstOf f 0 xs ≡ none ↔ ((k : ℕ) → k < length xs → f k (getD xs k d) ≡ none)
+  first-none f [] d = (λ e k l. absurd (omega arith), λ h. first-nil f)
+  first-none f (x ∷ xs) d = simp (first-cons, orElse-none, first-none (λ k. f (suc k)) xs d) (by-places (λ k y. f k y ≡ none) x xs d)
+
+  -- the lowest place wins: what member k gives, where no earlier member gives anything
+  pub first-at
+      : (f : ℕ → A → Option ℕ) (xs : List A) (d : A) (k p : ℕ)
+      → k < length xs
+      → ((q : ℕ) → q < k → f q (getD xs q d) ≡ none)
+      → f k (getD xs k d) ≡ some p
+      → firstOf f 0 xs ≡ some p
+  unfolding orElse
+  first-at f [] d k p l before e = absurd (omega arith)
+  first-at f (x ∷ xs) d zero p l before e = rw (first-cons, e)
+  first-at f (x ∷ xs) d (suc k) p l before e =
+      rw (first-cons, before zero (omega arith)) (first-at (λ q. f (suc q)) xs d k p (omega arith) (λ q u. before (suc q) (omega arith)) e)
+
+  -- nothing is found exactly if every member passes a test that does not ask for its number
+  pub first-each : (f : ℕ → A → Option ℕ) (P : A → Type 0) → ((k : ℕ) (x : A) → f k x ≡ none ↔ P x) → (xs : List A) → firstOf f 0 xs ≡ none ↔ Each P xs
+  first-each f P h [] = (λ e. end, λ h. first-nil f)
+  first-each f P h (x ∷ xs) = simp (first-cons, orElse-none, h, first-each (λ k. f (suc k)) P (λ k. h (suc k)) xs, each-cons) Iff·rfl
+
+  any-next : (f : ℕ → A → Bool) (i : ℕ) (xs : List A) → anyOf f (suc i) xs ≡ anyOf (λ k. f (suc k)) i xs
+  unfolding anyOf
+  any-next f i [] = refl
+  any-next f i (x ∷ xs) = ap (λ t. f (suc i) x || t) (any-next f (suc i) xs)
+
+  pub any-from-1 : (f : ℕ → A → Bool) (xs : List A) → anyOf f 1 xs ≡ anyOf (λ k. f (suc k)) 0 xs
+  any-from-1 f xs = any-next f 0 xs
+
+  any-nil : (f : ℕ → A → Bool) → anyOf f 0 [] ≡ false
+  unfolding anyOf
+  any-nil f = refl
+
+  any-cons : (f : ℕ → A → Bool) (x : A) (xs : List A) → anyOf f 0 (x ∷ xs) ≡ (f 0 x || anyOf (λ k. f (suc k)) 0 xs)
+  unfolding anyOf
+  any-cons f x xs = ap (λ t. f 0 x || t) (any-next f 0 xs)
+
+  -- the test holds of no member
+  pub any-none
+      : (f : ℕ → A → Bool) (xs : List A) (d : A) → anyOf f 0 xs ≡ false ↔ ((k : ℕ) → k < length xs → f k (getD xs k d) ≡ false)
+  any-none f [] d = (λ e k l. absurd (omega arith), λ h. any-nil f)
+  any-none f (x ∷ xs) d = simp (any-cons, or-no, any-none (λ k. f (suc k)) xs d) (by-places (λ k y. f k y ≡ false) x xs d)
+
+  -- the test holds of member k
+  pub any-at : (f : ℕ → A → Bool) (xs : List A) (d : A) (k : ℕ) → k < length xs → f k (getD xs k d) ≡ true → anyOf f 0 xs ≡ true
+  any-at f [] d k l e = absurd (omega arith)
+  any-at f (x ∷ xs) d zero l e = rw (any-cons, e)
+  any-at f (x ∷ xs) d (suc k) l e = rw (any-cons, any-at (λ q. f (suc q)) xs d k (omega arith) e) (or-true (f 0 x))
+    where
+      or-true : (t : Bool) → (t || true) ≡ true
+      or-true true = refl
+      or-true false = refl

@@ -1,0 +1,14 @@
+-- Theorems about the definitions of `spec`. What is claimed is said there; here it is proved.
+-- shared tools, and what is known of the pseudo key
+pub mod Tools
+pub mod Key
+-- the turns: the invariants of a run, and demand 3 for a proper file
+pub mod Turns
+-- the bytes: accepted jobs are proper, and are read and written back exactly
+pub mod Codec
+-- the two together: demand 3 for every accepted job, the charge file read back, room in the result buffer
+pub mod Demand3
+pub mod ReadBack
+pub mod Room
+-- the claim weighed: each field is refuted by some wrong machine
+pub mod Weighed

@@ -1,0 +1,72 @@
+-- Read-back: the charge file in a result is accepted as a job, and says just the file after the last turn.
+use Prim.Native.Nat.{ℕ, zero, suc, _^_, _<_, _≤_}
+use mathlib.Core.Path.{_≡_}
+use mathlib.Core.List.{List, []}
+use mathlib.Core.Option.{none, some}
+use native.Mathlib.Omega.{arith}
+use native.Mathlib.Decide.{decLe}
+use lib.ListN.{length, getD, List·getD-eq-default}
+use Rattle.spec.specs.declared.Op.{Op}
+use Rattle.spec.specs.Bytes.{AreBytes}
+use Rattle.spec.specs.File.{File, pageAt}
+use Rattle.spec.specs.Job.{Job, noOp}
+use Rattle.spec.specs.Encode.{encodeFile}
+use Rattle.spec.specs.Decode.{jobOf}
+use Rattle.spec.specs.Turn.{recOf}
+use Rattle.spec.specs.Run.{rowOf, run}
+use Rattle.spec.specs.Result.{result}
+use Rattle.spec.specs.Check.{jobFault}
+use Rattle.spec.specs.Proper.{Each, end, PageNo, FileOk}
+use Rattle.laws.specs.Tools.{each-at}
+use Rattle.laws.specs.Codec.Back.{RecFits}
+use Rattle.laws.specs.Codec.Exact.{accepted-proper}
+use Rattle.laws.specs.Codec.Proper.{RecordsFit, OpProper, JobProper}
+use Rattle.laws.specs.Codec.Written.{file-accepted, file-comes-back}
+use Rattle.laws.specs.Turns.Again.{final-ok, final-file}
+use Rattle.laws.specs.Turns.Narrow.{EveryRecord, run-every}
+
+-- calls and charges keep their 32 bits through a run: those of every page, and every charge that is answered
+page-records : (f : File) → FileOk f → RecordsFit f → EveryRecord RecFits f
+page-records f ok fits x = by (decLe 1 x) (decLe x (f .used))
+  where
+    by : Dec (1 ≤ x) → Dec (x ≤ f .used) → Each RecFits (pageAt f x .records)
+    by (yes l) (yes u) = fits x (l, u)
+    by (yes l) (no u) = rw (ok .unused x (λ n. u (n .1))) end
+    by (no l) u = rw (ok .unused x (λ n. l (n .0))) end
+
+op-record : (ops : List Op) → Each OpProper ops → (i : ℕ) → RecFits (recOf (getD ops i noOp))
+op-record ops h i = by (decLe (suc i) (length ops))
+  where
+    by : Dec (suc i ≤ length ops) → RecFits (recOf (getD ops i noOp))
+    by (yes l) = let o = each-at ops i noOp l h .fits in record { call = o .call; charge = o .charge }
+    by (no l) = rw (List·getD-eq-default ops noOp {n = i} (omega arith)) (record { call = omega arith; charge = omega arith })
+
+pub narrow : (j : Job) → JobProper j → EveryRecord RecFits (run j .file) × ((i : ℕ) → rowOf (run j) i .charge < 2 ^ 32)
+narrow j h =
+    let e =
+    run-every RecFits (λ c. c < 2 ^ 32) (omega arith) (λ r w. w .charge) j (page-records (j .file) (h .file) (h .records))
+    (op-record (j .ops) (h .ops)) in
+    (e .records, e .charges)
+
+-- What a job with no operation under way at the end leaves: a charge file that is accepted, with no fault of 1 to 10, and is that file.
+pub record ReadsBack (b : List ℕ) : Type 0 where
+  pub file : result (jobOf b) .file ≡ some (run (jobOf b) .file)
+  pub accepted : jobFault (encodeFile (run (jobOf b) .file)) ≡ none
+  pub same : jobOf (encodeFile (run (jobOf b) .file)) ≡ record { file = run (jobOf b) .file; ops = []; turns = [] }
+
+pub read-back : (b : List ℕ) → AreBytes b → jobFault b ≡ none → result (jobOf b) .unended ≡ 0 → ReadsBack b
+read-back b bytes accepted ended =
+    record {
+      file = final-file (jobOf b) ended;
+      accepted = file-accepted (run (jobOf b) .file) ok fits;
+      same = file-comes-back (run (jobOf b) .file) ok fits;
+    }
+  where
+    proper : JobProper (jobOf b)
+    proper = accepted-proper b bytes accepted
+
+    ok : FileOk (run (jobOf b) .file)
+    ok = final-ok (jobOf b) (proper .file) ended
+
+    fits : RecordsFit (run (jobOf b) .file)
+    fits x n = narrow (jobOf b) proper .0 x

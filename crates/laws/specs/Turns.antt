@@ -1,0 +1,49 @@
+-- Demand 3: every turn list of a job whose file is proper is explained by its log. The theorem is in Turns/Theorem.
+-- what is known of keys, records and pages, and of a split
+pub mod Prefix
+pub mod Records
+pub mod Shared
+pub mod Owners
+pub mod Grow
+pub mod Count
+pub mod Pages
+-- moves, rows and locks; numbers in range, and progress
+pub mod Ranges
+pub mod Rows
+pub mod Locks
+pub mod Plans
+pub mod Good
+pub mod Legal
+pub mod Progress
+-- what each turn does to the file and to what it holds
+pub mod Work
+pub mod Lookup
+pub mod SplitPlan
+pub mod Says
+pub mod Does
+pub mod PageTurns
+pub mod SplitTurns
+pub mod Tidy
+-- answers are given once
+pub mod Codes
+-- which page every entry names
+pub mod Owned
+pub mod OwnedTurns
+pub mod Settled
+-- the history of a run: every answer is right at its moment
+pub mod Reads
+pub mod History
+pub mod Account
+pub mod States
+pub mod Whole
+-- the log and the plain list
+pub mod Contents
+pub mod Log
+pub mod Replay
+pub mod Answers
+pub mod Theorem
+-- the result's file is proper again; sizes; an example
+pub mod Again
+pub mod Narrow
+pub mod Sizes
+pub mod Sample

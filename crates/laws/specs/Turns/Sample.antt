@@ -1,0 +1,95 @@
+-- Job E's file is proper, so demand 3 is not empty: it holds of job E's operations with any turn list.
+use Prim.Native.Nat.{ℕ, zero, suc, _<_}
+use mathlib.Core.Path.{_≡_, refl, _∙_}
+use mathlib.Core.List.{List, [], _∷_}
+use mathlib.Core.Bool.{true}
+use native.Mathlib.Omega.{arith}
+use lib.ListN.{getD}
+use Rattle.spec.specs.declared.Op.{Op}
+use Rattle.spec.specs.declared.Kind.the-variants.{Search, Insert, Delete}
+use Rattle.spec.specs.Basics.{if}
+use Rattle.spec.specs.Key.{index, begins}
+use Rattle.spec.specs.File.{File, zeroPage, pageAt, entryAt, findIn}
+use Rattle.spec.specs.Proper.{end, next, empty, more, PageNo, PageOk, FileOk}
+use Rattle.spec.specs.Claims.{Explained}
+use Rattle.laws.specs.Key.{index-lt}
+use Rattle.laws.specs.Turns.Theorem.{explained}
+
+abbrev pub fileE : File
+fileE =
+    record {
+      g = 1;
+      c = 2;
+      limit = 2;
+      used = 1;
+      directory = 1 ∷ 1 ∷ [];
+      table =
+          zeroPage
+          ∷ record { depth = 0; pattern = 0; records = record { call = 2; charge = 50 } ∷ record { call = 3; charge = 70 } ∷ [] }
+          ∷ zeroPage
+          ∷ [];
+    }
+
+-- "insert 4 (90), search 3, delete 3, search 3"
+abbrev pub opsE : List Op
+opsE =
+    record { kind = Insert; call = 4; charge = 90 }
+    ∷ record { kind = Search; call = 3; charge = 0 }
+    ∷ record { kind = Delete; call = 3; charge = 0 }
+    ∷ record { kind = Search; call = 3; charge = 0 }
+    ∷ []
+
+zero-index : (k : ℕ) → index 0 k ≡ 0
+zero-index k = let h = index-lt 0 k (omega arith) in omega arith
+
+dir-one : (e : ℕ) → e < 2 → getD (fileE .directory) e 0 ≡ 1
+dir-one zero l = refl
+dir-one (suc zero) l = refl
+dir-one (suc (suc e)) l = absurd (omega arith)
+
+pub fileE-ok : FileOk fileE
+unfolding pageAt entryAt findIn if begins
+fileE-ok =
+    record {
+      fit =
+          record {
+            depth = omega arith;
+            capacity = (omega arith, omega arith);
+            most = omega arith;
+            least = omega arith;
+            within = omega arith;
+            size = refl;
+            pages = refl;
+            entries = λ j l. let e = dir-one j l in omega arith;
+          };
+      pages = pages;
+      names = names;
+      owner = λ e x l p z. dir-one e l ∙ (omega arith);
+      unused = unused;
+    }
+  where
+    names : (e : ℕ) → e < 2 → begins 1 (pageAt fileE (entryAt fileE e) .depth) (pageAt fileE (entryAt fileE e) .pattern) e ≡ true
+    names zero l = refl
+    names (suc zero) l = refl
+    names (suc (suc e)) l = absurd (omega arith)
+
+    unused : (x : ℕ) → (PageNo fileE x → ⊥) → pageAt fileE x ≡ zeroPage
+    unused zero n = refl
+    unused (suc zero) n = absurd (n (omega arith))
+    unused (suc (suc zero)) n = refl
+    unused (suc (suc (suc x))) n = refl
+
+    pages : (x : ℕ) → PageNo fileE x → PageOk 1 2 (pageAt fileE x)
+    pages zero p = absurd (omega arith)
+    pages (suc zero) p =
+        record {
+          deep = omega arith;
+          small = omega arith;
+          room = omega arith;
+          homed = next (zero-index 2) (next (zero-index 3) end);
+          once = more refl (more refl empty);
+        }
+    pages (suc (suc x)) p = absurd (omega arith)
+
+pub explained-E : (ts : List ℕ) → Explained (record { file = fileE; ops = opsE; turns = ts })
+explained-E ts = explained (record { file = fileE; ops = opsE; turns = ts }) fileE-ok

@@ -1,0 +1,182 @@
+-- DEMAND 3: every turn list of a job whose file is proper is explained by its log, on the plain list.
+use Prim.Native.Nat.{ℕ, suc, _<_, _≤_}
+use mathlib.Core.Path.{_≡_, refl, sym, ap, _∙_, subst}
+use mathlib.Core.Logic.{_⊎_, ⊎-elim, by-cases}
+use mathlib.Core.List.{List, map}
+use mathlib.Core.Bool.{Bool, true, true≢false, false≢true}
+use mathlib.Core.Option.{none}
+use native.Mathlib.Omega.{arith}
+use native.Mathlib.Decide.{ℕ-discrete, decLt}
+use lib.ListN.{length, getD}
+use lib.Seq.{take-length}
+use Rattle.spec.specs.declared.Op.{Op}
+use Rattle.spec.specs.declared.Kind.the-variants.{Search}
+use Rattle.spec.specs.declared.Stage.{Stage}
+use Rattle.spec.specs.declared.Stage.the-variants.{NotBegun, ReadPage, Reread, Lock, Held, Split, Done}
+use Rattle.spec.specs.File.{File, findIn, contents}
+use Rattle.spec.specs.Job.{Job, noOp}
+use Rattle.spec.specs.Code.{notYet, noDepth, noPage}
+use Rattle.spec.specs.State.{State}
+use Rattle.spec.specs.Run.{rowOf, stageOf, idle, run}
+use Rattle.spec.specs.Result.{Told, toldOf, logOf, resultOf, result}
+use Rattle.spec.specs.PlainList.{replyOf, Replay, replay}
+use Rattle.spec.specs.Proper.{NoneTwice, FileOk}
+use Rattle.spec.specs.Claims.{stateAt, FirstTurn, Ended, Waits, times, log, lineAt, opAt, answerOf, fed, Explained}
+use Rattle.laws.specs.Turns.Records.{same-has}
+use Rattle.laws.specs.Turns.Rows.{stage-row, moves-row, code-row}
+use Rattle.laws.specs.Turns.Progress.{progress}
+use Rattle.laws.specs.Turns.Codes.{CodeAt}
+use Rattle.laws.specs.Turns.States.{firstTurn, first-ge, stateAt-now}
+use Rattle.laws.specs.Turns.Whole.{Whole, pages-of, whole, end-whole, kept-end}
+use Rattle.laws.specs.Turns.Contents.{contents-lookup, contents-twice}
+use Rattle.laws.specs.Turns.Log.{Marked, log-once, log-other, log-sorted, log-says}
+use Rattle.laws.specs.Turns.Answers.{answer-at, replayed, replay-twice, refused-at}
+
+-- a search that is unfinished is not idle
+search-moves
+    : (l : List Bool) (f : File) (op : Op) (c : ℕ) (st : Stage)
+    → CodeAt f op c st
+    → op .kind ≡ Search
+    → (st ≡ Done → ⊥)
+    → idle l st ≡ true
+    → ⊥
+unfolding idle
+search-moves l f op c NotBegun h k n e = false≢true e
+search-moves l f op c (ReadPage x) h k n e = false≢true e
+search-moves l f op c (Reread x t) h k n e = false≢true e
+search-moves l f op c (Lock x) h k n e = h .0 k
+search-moves l f op c (Held x t) h k n e = false≢true e
+search-moves l f op c (Split x b m q) h k n e = false≢true e
+search-moves l f op c Done h k n e = n refl
+
+done-idle : (l : List Bool) (st : Stage) → st ≡ Done → idle l st ≡ true
+unfolding idle
+done-idle l st e = ap (idle l) e
+
+-- a finished operation has a code
+done-code : {j : Job} {s : State} → Whole j s → (i : ℕ) → i < length (s .rows) → stageOf s i ≡ Done → rowOf s i .code ≡ notYet → ⊥
+done-code {j} {s} w i l e = subst (CodeAt (s .file) (getD (j .ops) i noOp) (rowOf s i .code)) e (w .codes .code i l)
+
+module _ (j : Job) (ok : FileOk (j .file)) where
+  w : Whole j (run j)
+  w = end-whole j ok
+
+  code-at : (i : ℕ) → answerOf j i .code ≡ rowOf (run j) i .code
+  unfolding answerOf result toldOf
+  code-at i = ap (λ (t : Told). t .code) (answer-at (run j) i)
+
+  log-at : log j ≡ logOf (run j)
+  unfolding log result resultOf
+  log-at = refl
+
+  fed-all : fed j (length (log j)) ≡ replay (j .ops) (result j .answers) (result j .log) (contents (j .file))
+  unfolding fed log
+  fed-all = ap (λ hs. replay (j .ops) (result j .answers) hs (contents (j .file))) (take-length (result j .log))
+
+  all-answers : fed j (length (log j)) .replies ≡ map (λ h. replyOf (answerOf j (h .op))) (log j)
+  unfolding log answerOf
+  all-answers = ap (λ (r : Replay). r .replies) fed-all ∙ replayed j ok .0
+
+  list-once : (n : ℕ) → NoneTwice (fed j n .list)
+  unfolding fed
+  list-once n = replay-twice (j .ops) _ _ _ (contents-twice (j .file) (pages-of (j .file) ok))
+
+  same-find : (k : ℕ) → findIn (fed j (length (log j)) .list) k ≡ findIn (contents (run j .file)) k
+  same-find k =
+      ap (λ (r : Replay). findIn (r .list) k) fed-all ∙ replayed j ok .1 k ∙ sym (contents-lookup (run j .file) (w .good .fit) k)
+
+  end-once : NoneTwice (contents (run j .file))
+  end-once = contents-twice (run j .file) (w .tidy .pages)
+
+  row-moment
+      : (i : ℕ)
+      → (rowOf (run j) i .code ≡ notYet → ⊥)
+      → (firstTurn (j .turns) i ≤ rowOf (run j) i .moment) × (rowOf (run j) i .moment < run j .now)
+  row-moment i n = let c = w .past .right i n in (c .3, c .1)
+
+  in-order
+      : (p q t u : ℕ)
+      → p < length (log j)
+      → q < length (log j)
+      → Ended j (lineAt j p .op) t
+      → FirstTurn j (lineAt j q .op) u
+      → t < u
+      → p < q
+  unfolding log result resultOf
+  in-order p q t u lp lq e f l =
+      by-cases (decLt p q) (λ h. h)
+      (λ h.
+      by-cases (ℕ-discrete q p) (λ (z : q ≡ p). absurd (let y : lineAt j q .moment ≡ lineAt j p .moment = rw z in omega (arith, both)))
+      (λ z. absurd (⊎-elim (λ b. omega (arith, both)) (λ b. omega (arith, both)) (log-sorted (run j) q p (omega arith) lp))))
+    where
+      a : ℕ
+      a = lineAt j p .op
+
+      b : ℕ
+      b = lineAt j q .op
+
+      sp : Marked (lineAt j p .moment) (rowOf (run j) a)
+      sp = log-says (run j) p lp
+
+      sq : Marked (lineAt j q .moment) (rowOf (run j) b)
+      sq = log-says (run j) q lq
+
+      then : Whole j (stateAt j (suc t))
+      then = whole j ok (suc t) (e .within)
+
+      said : rowOf (stateAt j (suc t)) a .code ≡ notYet → ⊥
+      said = done-code then a (omega (arith, code-row (run j) a (sp .code), w .rows, then .rows)) (e .after)
+
+      early : lineAt j p .moment < suc t
+      early =
+          omega (arith, sp .moment, kept-end j ok a (suc t) (e .within) said .1, then .past .right a said .1, stateAt-now j (suc t) (e .within))
+
+      late : u ≤ lineAt j q .moment
+      late = omega (arith, sq .moment, row-moment b (sq .code) .0, first-ge (j .turns) b u (omega (arith, f .within)) (f .notBefore))
+
+      both : lineAt j p .moment < lineAt j q .moment
+      both = omega (arith, early, late)
+
+  can-move
+      : (i : ℕ)
+      → i < length (j .ops)
+      → (stageOf (run j) i ≡ Done → ⊥)
+      → (k : ℕ) × (k < length (j .ops)) × (stageOf (run j) k ≡ Done → ⊥) × (Waits (run j) k → ⊥)
+  can-move i l n =
+      let p = progress (run j) (w .good .locks) i n in (
+        p .0,
+        omega (arith, moves-row (run j) (p .0) (p .1), w .rows),
+        λ d. true≢false (sym (done-idle (run j .locks) _ d) ∙ p .1),
+        λ w. true≢false (sym (w .idles) ∙ p .1),
+      )
+
+  all-refused
+      : (p : ℕ)
+      → p < length (log j)
+      → (answerOf j (lineAt j p .op) .code ≡ noDepth) ⊎ (answerOf j (lineAt j p .op) .code ≡ noPage)
+      → (findIn (fed j p .list) (opAt j p .call) ≡ none) × (fed j (suc p) .list ≡ fed j p .list)
+  unfolding fed log answerOf
+  all-refused p l c = refused-at (j .ops) (result j .answers) (result j .log) (contents (j .file)) p (replayed j ok .0) l c
+
+  pub explained : Explained j
+  explained =
+      record {
+        answers = all-answers;
+        refused = all-refused;
+        once = λ i n.
+            let m : rowOf (run j) i .code ≡ notYet → ⊥ = λ z. n (code-at i ∙ z) in
+            ap (times i) log-at ∙ log-once (run j) i m (row-moment i m .1);
+        noOther = λ i z. ap (times i) log-at ∙ log-other (run j) i (sym (code-at i) ∙ z);
+        sorted = rw log-at (log-sorted (run j));
+        held = λ r. (
+          same-has _ _ (list-once _) same-find r,
+          same-has _ _ end-once (λ k. sym (same-find k)) r,
+        );
+        listOnce = list-once;
+        fileOnce = λ t l. contents-twice _ (whole j ok t l .tidy .pages);
+        order = in-order;
+        searches = λ t i l k v.
+            search-moves _ _ _ _ _ (whole j ok t l .codes .code i (stage-row (stateAt j t) i (v .unfinished))) k (v .unfinished) (v .idles);
+        progress = can-move;
+        finished = λ i l d z. done-code w i (omega (arith, w .rows)) d (sym (code-at i) ∙ z);
+      }

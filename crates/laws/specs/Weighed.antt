@@ -1,0 +1,271 @@
+-- The claim weighed: each field of `Explained` as a test that computes, and small jobs on which every test passes.
+-- For each field there is a changed definition under which its test fails on one of these jobs (tests/edits), so no field is there for nothing.
+use Prim.Native.Nat.{ℕ, zero, suc, _+_}
+use mathlib.Core.Path.{_≡_, refl}
+use mathlib.Core.List.{List, [], _∷_, _++_, map}
+use mathlib.Core.Bool.{Bool, true, false, not, _&&_, _||_}
+use mathlib.Core.Option.{Option, none, some}
+use lib.ListN.{length, getD, replicate}
+use lib.Dec.{ltb, leb, eqb}
+use Rattle.spec.specs.declared.Rec.{Rec}
+use Rattle.spec.specs.declared.Op.{Op}
+use Rattle.spec.specs.declared.Kind.{Kind}
+use Rattle.spec.specs.declared.Kind.the-variants.{Search, Insert, Delete}
+use Rattle.spec.specs.declared.Stage.{Stage}
+use Rattle.spec.specs.declared.Stage.the-variants.{NotBegun, ReadPage, Reread, Lock, Held, Split, Done}
+use Rattle.spec.specs.Basics.{if, isSome, allOf, anyOf}
+use Rattle.spec.specs.Code.{notYet}
+use Rattle.spec.specs.File.{File, zeroPage, findIn, contents}
+use Rattle.spec.specs.Job.{Job, noOp}
+use Rattle.spec.specs.Decode.{jobOf}
+use Rattle.spec.specs.State.{State}
+use Rattle.spec.specs.Run.{idle, stageOf, run}
+use Rattle.spec.specs.Result.{Line}
+use Rattle.spec.specs.PlainList.{Reply, replyOf, turnedDown}
+use Rattle.spec.specs.Claims.{stateAt, times, log, lineAt, opAt, answerOf, fed}
+use Rattle.spec.specs.Worked.{jobB, jobInsert, jobG}
+use Rattle.spec.specs.Opened.{opened}
+
+-- 0, 1, .., n - 1, behind the numbers of acc
+unfoldable below : ℕ → List ℕ → List ℕ
+below zero acc = acc
+below (suc n) acc = below n (n ∷ acc)
+
+abbrev every : ℕ → (ℕ → Bool) → Bool
+every n f = allOf f (below n [])
+
+abbrev some-of : ℕ → (ℕ → Bool) → Bool
+some-of n f = not (allOf (λ i. not (f i)) (below n []))
+
+unfoldable sameRec : Rec → Rec → Bool
+sameRec a b = eqb (a .call) (b .call) && eqb (a .charge) (b .charge)
+
+unfoldable sameRecs : List Rec → List Rec → Bool
+sameRecs [] [] = true
+sameRecs [] (b ∷ bs) = false
+sameRecs (a ∷ rest) [] = false
+sameRecs (a ∷ rest) (b ∷ bs) = sameRec a b && sameRecs rest bs
+
+unfoldable sameReplies : List Reply → List Reply → Bool
+sameReplies [] [] = true
+sameReplies [] (b ∷ bs) = false
+sameReplies (a ∷ rest) [] = false
+sameReplies (a ∷ rest) (b ∷ bs) = (eqb (a .code) (b .code) && eqb (a .charge) (b .charge)) && sameReplies rest bs
+
+unfoldable member : Rec → List Rec → Bool
+member r [] = false
+member r (a ∷ rest) = sameRec a r || member r rest
+
+unfoldable noneTwice : List Rec → Bool
+noneTwice [] = true
+noneTwice (r ∷ rs) = not (isSome (findIn rs (r .call))) && noneTwice rs
+
+unfoldable isDone : Stage → Bool
+isDone NotBegun = false
+isDone (ReadPage x) = false
+isDone (Reread x t) = false
+isDone (Lock x) = false
+isDone (Held x t) = false
+isDone (Split x b n q) = false
+isDone Done = true
+
+unfoldable isSearch : Kind → Bool
+isSearch Search = true
+isSearch Insert = false
+isSearch Delete = false
+
+unfoldable waits : State → ℕ → Bool
+waits s i = not (isDone (stageOf s i)) && idle (s .locks) (stageOf s i)
+
+-- turn t finished operation i; turn t is the first that names it
+unfoldable ended : Job → ℕ → ℕ → Bool
+ended j i t = not (isDone (stageOf (stateAt j t) i)) && isDone (stageOf (stateAt j (suc t)) i)
+
+unfoldable first : Job → ℕ → ℕ → Bool
+first j i t = eqb (getD (j .turns) t 0) i && every t (λ u. not (eqb (getD (j .turns) u 0) i))
+
+abbrev codeOf : Job → ℕ → ℕ
+codeOf j i = answerOf j i .code
+
+-- The fields, in the claim's order.
+unfoldable answers : Job → Bool
+answers j = sameReplies (fed j (length (log j)) .replies) (map (λ h. replyOf (answerOf j (h .op))) (log j))
+
+unfoldable refused : Job → Bool
+refused j =
+    every (length (log j))
+    (λ p.
+    not (turnedDown (codeOf j (lineAt j p .op)))
+    || (not (isSome (findIn (fed j p .list) (opAt j p .call))) && sameRecs (fed j (suc p) .list) (fed j p .list)))
+
+unfoldable once : Job → Bool
+once j = every (length (j .ops)) (λ i. eqb (codeOf j i) notYet || eqb (times i (log j)) 1)
+
+unfoldable noOther : Job → Bool
+noOther j = every (length (j .ops)) (λ i. not (eqb (codeOf j i) notYet) || eqb (times i (log j)) 0)
+
+unfoldable precedes : Line → Line → Bool
+precedes a b = ltb (a .moment) (b .moment) || (eqb (a .moment) (b .moment) && ltb (a .op) (b .op))
+
+unfoldable sorted : Job → Bool
+sorted j = every (length (log j)) (λ q. every q (λ p. precedes (lineAt j p) (lineAt j q)))
+
+unfoldable held : Job → Bool
+held j =
+    let list : List Rec = fed j (length (log j)) .list in
+    let file : List Rec = contents (run j .file) in
+    allOf (λ r. member r file) list && allOf (λ r. member r list) file
+
+unfoldable listOnce : Job → Bool
+listOnce j = every (suc (length (log j))) (λ n. noneTwice (fed j n .list))
+
+unfoldable fileOnce : Job → Bool
+fileOnce j = every (suc (length (j .turns))) (λ t. noneTwice (contents (stateAt j t .file)))
+
+-- operation a ended before operation b's first turn
+unfoldable before : Job → ℕ → ℕ → Bool
+before j a b =
+    some-of (length (j .turns)) (λ u. first j b u && some-of u (λ t. ended j a t))
+
+unfoldable order : Job → Bool
+order j =
+    every (length (log j))
+    (λ q. every (suc q) (λ p. not (before j (lineAt j q .op) (lineAt j p .op))))
+
+unfoldable searches : Job → Bool
+searches j =
+    every (suc (length (j .turns)))
+    (λ t. every (length (j .ops)) (λ i. not (isSearch (getD (j .ops) i noOp .kind) && waits (stateAt j t) i)))
+
+unfoldable progress : Job → Bool
+progress j =
+    every (length (j .ops)) (λ i. isDone (stageOf (run j) i))
+    || some-of (length (j .ops)) (λ k. not (isDone (stageOf (run j) k)) && not (waits (run j) k))
+
+unfoldable finished : Job → Bool
+finished j = every (length (j .ops)) (λ i. not (isDone (stageOf (run j) i)) || not (eqb (codeOf j i) notYet))
+
+abbrev op : Kind → ℕ → ℕ → Op
+op k n c = record { kind = k; call = n; charge = c }
+
+abbrev call : ℕ → ℕ → Rec
+call k c = record { call = k; charge = c }
+
+-- a file of depth 1 and capacity 3 with one page in use of two
+abbrev onePage : List Rec → List Op → List ℕ → Job
+onePage rs ops turns =
+    record {
+      file =
+          record {
+            g = 1;
+            c = 3;
+            limit = 2;
+            used = 1;
+            directory = 1 ∷ 1 ∷ [];
+            table = zeroPage ∷ record { depth = 0; pattern = 0; records = rs } ∷ zeroPage ∷ [];
+          };
+      ops = ops;
+      turns = turns;
+    }
+
+-- n turns for operation i
+abbrev times-of : ℕ → ℕ → List ℕ
+times-of n i = replicate n i
+
+abbrev full : List Rec
+full = call 2 50 ∷ call 3 70 ∷ call 5 20 ∷ []
+
+-- a search and two inserts into a page with room, the second waiting behind the first; then a search
+abbrev roomy : Job
+roomy =
+    onePage (call 2 50 ∷ []) (op Search 2 0 ∷ op Insert 4 90 ∷ op Insert 2 60 ∷ op Search 4 0 ∷ [])
+    (times-of 2 0 ++ times-of 2 1 ++ times-of 2 2 ++ times-of 4 1 ++ times-of 5 2 ++ times-of 3 3)
+
+-- a search reads its entry, the page is split, and the search reads the page then
+abbrev lateReader : Job
+lateReader = onePage full (op Insert 4 90 ∷ op Search 3 0 ∷ []) (times-of 1 1 ++ times-of 9 0 ++ times-of 4 1)
+
+-- an insert reads its entry, the page is split, and the insert locks the page then
+abbrev lateWriter : Job
+lateWriter = onePage full (op Insert 4 90 ∷ op Insert 1 10 ∷ []) (times-of 1 1 ++ times-of 9 0 ++ times-of 8 1)
+
+-- the same with a delete, and another delete on the page that it let go
+abbrev released : Job
+released =
+    onePage full (op Insert 4 90 ∷ op Delete 3 0 ∷ op Delete 2 0 ∷ []) (times-of 1 1 ++ times-of 9 0 ++ times-of 8 1 ++ times-of 2 2)
+
+-- a search between the first turn that writes and the others
+abbrev between : Job
+between = onePage full (op Insert 4 90 ∷ op Search 3 0 ∷ []) (times-of 5 0 ++ times-of 3 1 ++ times-of 4 0)
+
+-- two inserts of one call come to a new page before the split is done
+abbrev twoWriters : Job
+twoWriters =
+    onePage full (op Insert 4 90 ∷ op Insert 1 10 ∷ op Insert 1 11 ∷ [])
+    (times-of 6 0 ++ times-of 4 1 ++ times-of 1 0 ++ times-of 4 2 ++ times-of 2 1 ++ times-of 2 2 ++ times-of 2 0)
+
+-- job E; job E stopped after 7 turns; an insert told "no page"; one whose call is there; and those above
+abbrev jobs : List Job
+jobs =
+    jobOf jobB
+    ∷ jobOf jobG
+    ∷ jobOf (jobInsert 3)
+    ∷ jobOf (jobInsert 1)
+    ∷ roomy
+    ∷ lateReader
+    ∷ lateWriter
+    ∷ released
+    ∷ between
+    ∷ twoWriters
+    ∷ []
+
+abbrev Passes : (Job → Bool) → Type 0
+Passes test = map test jobs ≡ map (λ (j : Job). true) jobs
+
+answers-passes : Passes answers
+unfolding opened stateAt times log answerOf fed below sameRec sameRecs sameReplies member noneTwice isDone isSearch waits ended first precedes before answers
+answers-passes = refl
+
+refused-passes : Passes refused
+unfolding opened stateAt times log answerOf fed below sameRec sameRecs sameReplies member noneTwice isDone isSearch waits ended first precedes before refused
+refused-passes = refl
+
+once-passes : Passes once
+unfolding opened stateAt times log answerOf fed below sameRec sameRecs sameReplies member noneTwice isDone isSearch waits ended first precedes before once
+once-passes = refl
+
+noOther-passes : Passes noOther
+unfolding opened stateAt times log answerOf fed below sameRec sameRecs sameReplies member noneTwice isDone isSearch waits ended first precedes before noOther
+noOther-passes = refl
+
+sorted-passes : Passes sorted
+unfolding opened stateAt times log answerOf fed below sameRec sameRecs sameReplies member noneTwice isDone isSearch waits ended first precedes before sorted
+sorted-passes = refl
+
+held-passes : Passes held
+unfolding opened stateAt times log answerOf fed below sameRec sameRecs sameReplies member noneTwice isDone isSearch waits ended first precedes before held
+held-passes = refl
+
+listOnce-passes : Passes listOnce
+unfolding opened stateAt times log answerOf fed below sameRec sameRecs sameReplies member noneTwice isDone isSearch waits ended first precedes before listOnce
+listOnce-passes = refl
+
+fileOnce-passes : Passes fileOnce
+unfolding opened stateAt times log answerOf fed below sameRec sameRecs sameReplies member noneTwice isDone isSearch waits ended first precedes before fileOnce
+fileOnce-passes = refl
+
+order-passes : Passes order
+unfolding opened stateAt times log answerOf fed below sameRec sameRecs sameReplies member noneTwice isDone isSearch waits ended first precedes before order
+order-passes = refl
+
+searches-passes : Passes searches
+unfolding opened stateAt times log answerOf fed below sameRec sameRecs sameReplies member noneTwice isDone isSearch waits ended first precedes before searches
+searches-passes = refl
+
+progress-passes : Passes progress
+unfolding opened stateAt times log answerOf fed below sameRec sameRecs sameReplies member noneTwice isDone isSearch waits ended first precedes before progress
+progress-passes = refl
+
+finished-passes : Passes finished
+unfolding opened stateAt times log answerOf fed below sameRec sameRecs sameReplies member noneTwice isDone isSearch waits ended first precedes before finished
+finished-passes = refl

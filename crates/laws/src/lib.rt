@@ -1,0 +1,1 @@
+// Theorems about the definitions of `spec`: see specs/. Nothing here runs.
