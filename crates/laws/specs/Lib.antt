@@ -10,5 +10,6 @@ pub mod Codec
 pub mod Demand3
 pub mod ReadBack
 pub mod Room
--- the claim weighed: each field is refuted by some wrong machine
+-- the claim weighed: each field as a test that computes, which some wrong machine fails; a failed test refutes the claim
 pub mod Weighed
+pub mod Refutes

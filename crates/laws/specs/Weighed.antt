@@ -1,5 +1,6 @@
 -- The claim weighed: each field of `Explained` as a test that computes, and small jobs on which every test passes.
 -- For each field there is a changed definition under which its test fails on one of these jobs (tests/edits), so no field is there for nothing.
+-- That a test is true where its field holds is proved in Refutes: a test that fails refutes the claim.
 use Prim.Native.Nat.{ℕ, zero, suc, _+_}
 use mathlib.Core.Path.{_≡_, refl}
 use mathlib.Core.List.{List, [], _∷_, _++_, map}
@@ -14,53 +15,48 @@ use Rattle.spec.specs.declared.Kind.the-variants.{Search, Insert, Delete}
 use Rattle.spec.specs.declared.Stage.{Stage}
 use Rattle.spec.specs.declared.Stage.the-variants.{NotBegun, ReadPage, Reread, Lock, Held, Split, Done}
 use Rattle.spec.specs.Basics.{if, isSome, allOf, anyOf}
-use Rattle.spec.specs.Code.{notYet}
+use Rattle.spec.specs.Code.{notYet, noDepth, noPage}
 use Rattle.spec.specs.File.{File, zeroPage, findIn, contents}
 use Rattle.spec.specs.Job.{Job, noOp}
 use Rattle.spec.specs.Decode.{jobOf}
 use Rattle.spec.specs.State.{State}
 use Rattle.spec.specs.Run.{idle, stageOf, run}
 use Rattle.spec.specs.Result.{Line}
-use Rattle.spec.specs.PlainList.{Reply, replyOf, turnedDown}
+use Rattle.spec.specs.PlainList.{Reply, replyOf}
 use Rattle.spec.specs.Claims.{stateAt, times, log, lineAt, opAt, answerOf, fed}
 use Rattle.spec.specs.Worked.{jobB, jobInsert, jobG}
 use Rattle.spec.specs.Opened.{opened}
 
--- 0, 1, .., n - 1, behind the numbers of acc
-unfoldable below : ℕ → List ℕ → List ℕ
-below zero acc = acc
-below (suc n) acc = below n (n ∷ acc)
+-- the test holds of 0, 1, .., n - 1; it holds of one of them
+unfoldable pub every : ℕ → (ℕ → Bool) → Bool
+every zero f = true
+every (suc n) f = f zero && every n (λ i. f (suc i))
 
-abbrev every : ℕ → (ℕ → Bool) → Bool
-every n f = allOf f (below n [])
+abbrev pub some-of : ℕ → (ℕ → Bool) → Bool
+some-of n f = not (every n (λ i. not (f i)))
 
-abbrev some-of : ℕ → (ℕ → Bool) → Bool
-some-of n f = not (allOf (λ i. not (f i)) (below n []))
-
-unfoldable sameRec : Rec → Rec → Bool
+unfoldable pub sameRec : Rec → Rec → Bool
 sameRec a b = eqb (a .call) (b .call) && eqb (a .charge) (b .charge)
 
-unfoldable sameRecs : List Rec → List Rec → Bool
-sameRecs [] [] = true
-sameRecs [] (b ∷ bs) = false
-sameRecs (a ∷ rest) [] = false
-sameRecs (a ∷ rest) (b ∷ bs) = sameRec a b && sameRecs rest bs
+unfoldable pub sameReply : Reply → Reply → Bool
+sameReply a b = eqb (a .code) (b .code) && eqb (a .charge) (b .charge)
 
-unfoldable sameReplies : List Reply → List Reply → Bool
-sameReplies [] [] = true
-sameReplies [] (b ∷ bs) = false
-sameReplies (a ∷ rest) [] = false
-sameReplies (a ∷ rest) (b ∷ bs) = (eqb (a .code) (b .code) && eqb (a .charge) (b .charge)) && sameReplies rest bs
+-- two lists are the same, by a test for two members
+unfoldable pub same : {A : Type 0} → (A → A → Bool) → List A → List A → Bool
+same f [] [] = true
+same f [] (b ∷ bs) = false
+same f (a ∷ rest) [] = false
+same f (a ∷ rest) (b ∷ bs) = f a b && same f rest bs
 
-unfoldable member : Rec → List Rec → Bool
+unfoldable pub member : Rec → List Rec → Bool
 member r [] = false
 member r (a ∷ rest) = sameRec a r || member r rest
 
-unfoldable noneTwice : List Rec → Bool
+unfoldable pub noneTwice : List Rec → Bool
 noneTwice [] = true
 noneTwice (r ∷ rs) = not (isSome (findIn rs (r .call))) && noneTwice rs
 
-unfoldable isDone : Stage → Bool
+unfoldable pub isDone : Stage → Bool
 isDone NotBegun = false
 isDone (ReadPage x) = false
 isDone (Reread x t) = false
@@ -69,80 +65,79 @@ isDone (Held x t) = false
 isDone (Split x b n q) = false
 isDone Done = true
 
-unfoldable isSearch : Kind → Bool
+unfoldable pub isSearch : Kind → Bool
 isSearch Search = true
 isSearch Insert = false
 isSearch Delete = false
 
-unfoldable waits : State → ℕ → Bool
+unfoldable pub waits : State → ℕ → Bool
 waits s i = not (isDone (stageOf s i)) && idle (s .locks) (stageOf s i)
 
 -- turn t finished operation i; turn t is the first that names it
-unfoldable ended : Job → ℕ → ℕ → Bool
+unfoldable pub ended : Job → ℕ → ℕ → Bool
 ended j i t = not (isDone (stageOf (stateAt j t) i)) && isDone (stageOf (stateAt j (suc t)) i)
 
-unfoldable first : Job → ℕ → ℕ → Bool
+unfoldable pub first : Job → ℕ → ℕ → Bool
 first j i t = eqb (getD (j .turns) t 0) i && every t (λ u. not (eqb (getD (j .turns) u 0) i))
 
 abbrev codeOf : Job → ℕ → ℕ
 codeOf j i = answerOf j i .code
 
 -- The fields, in the claim's order.
-unfoldable answers : Job → Bool
-answers j = sameReplies (fed j (length (log j)) .replies) (map (λ h. replyOf (answerOf j (h .op))) (log j))
+unfoldable pub answers : Job → Bool
+answers j = same sameReply (fed j (length (log j)) .replies) (map (λ h. replyOf (answerOf j (h .op))) (log j))
 
-unfoldable refused : Job → Bool
+unfoldable pub refused : Job → Bool
 refused j =
     every (length (log j))
     (λ p.
-    not (turnedDown (codeOf j (lineAt j p .op)))
-    || (not (isSome (findIn (fed j p .list) (opAt j p .call))) && sameRecs (fed j (suc p) .list) (fed j p .list)))
+    not (eqb (codeOf j (lineAt j p .op)) noDepth || eqb (codeOf j (lineAt j p .op)) noPage)
+    || (not (isSome (findIn (fed j p .list) (opAt j p .call))) && same sameRec (fed j (suc p) .list) (fed j p .list)))
 
-unfoldable once : Job → Bool
+unfoldable pub once : Job → Bool
 once j = every (length (j .ops)) (λ i. eqb (codeOf j i) notYet || eqb (times i (log j)) 1)
 
-unfoldable noOther : Job → Bool
+unfoldable pub noOther : Job → Bool
 noOther j = every (length (j .ops)) (λ i. not (eqb (codeOf j i) notYet) || eqb (times i (log j)) 0)
 
-unfoldable precedes : Line → Line → Bool
+unfoldable pub precedes : Line → Line → Bool
 precedes a b = ltb (a .moment) (b .moment) || (eqb (a .moment) (b .moment) && ltb (a .op) (b .op))
 
-unfoldable sorted : Job → Bool
+unfoldable pub sorted : Job → Bool
 sorted j = every (length (log j)) (λ q. every q (λ p. precedes (lineAt j p) (lineAt j q)))
 
-unfoldable held : Job → Bool
+unfoldable pub held : Job → Bool
 held j =
     let list : List Rec = fed j (length (log j)) .list in
     let file : List Rec = contents (run j .file) in
     allOf (λ r. member r file) list && allOf (λ r. member r list) file
 
-unfoldable listOnce : Job → Bool
+unfoldable pub listOnce : Job → Bool
 listOnce j = every (suc (length (log j))) (λ n. noneTwice (fed j n .list))
 
-unfoldable fileOnce : Job → Bool
+unfoldable pub fileOnce : Job → Bool
 fileOnce j = every (suc (length (j .turns))) (λ t. noneTwice (contents (stateAt j t .file)))
 
--- operation a ended before operation b's first turn
-unfoldable before : Job → ℕ → ℕ → Bool
-before j a b =
-    some-of (length (j .turns)) (λ u. first j b u && some-of u (λ t. ended j a t))
-
-unfoldable order : Job → Bool
+-- no line's operation ended before the first turn of the operation of a line that stands no later
+unfoldable pub order : Job → Bool
 order j =
     every (length (log j))
-    (λ q. every (suc q) (λ p. not (before j (lineAt j q .op) (lineAt j p .op))))
+    (λ q.
+    every (suc q)
+    (λ p.
+    every (length (j .turns)) (λ u. not (first j (lineAt j p .op) u) || every u (λ t. not (ended j (lineAt j q .op) t)))))
 
-unfoldable searches : Job → Bool
+unfoldable pub searches : Job → Bool
 searches j =
     every (suc (length (j .turns)))
     (λ t. every (length (j .ops)) (λ i. not (isSearch (getD (j .ops) i noOp .kind) && waits (stateAt j t) i)))
 
-unfoldable progress : Job → Bool
+unfoldable pub progress : Job → Bool
 progress j =
     every (length (j .ops)) (λ i. isDone (stageOf (run j) i))
     || some-of (length (j .ops)) (λ k. not (isDone (stageOf (run j) k)) && not (waits (run j) k))
 
-unfoldable finished : Job → Bool
+unfoldable pub finished : Job → Bool
 finished j = every (length (j .ops)) (λ i. not (isDone (stageOf (run j) i)) || not (eqb (codeOf j i) notYet))
 
 abbrev op : Kind → ℕ → ℕ → Op
@@ -223,49 +218,49 @@ abbrev Passes : (Job → Bool) → Type 0
 Passes test = map test jobs ≡ map (λ (j : Job). true) jobs
 
 answers-passes : Passes answers
-unfolding opened stateAt times log answerOf fed below sameRec sameRecs sameReplies member noneTwice isDone isSearch waits ended first precedes before answers
+unfolding opened stateAt times log answerOf fed every sameRec sameReply same member noneTwice isDone isSearch waits ended first precedes answers
 answers-passes = refl
 
 refused-passes : Passes refused
-unfolding opened stateAt times log answerOf fed below sameRec sameRecs sameReplies member noneTwice isDone isSearch waits ended first precedes before refused
+unfolding opened stateAt times log answerOf fed every sameRec sameReply same member noneTwice isDone isSearch waits ended first precedes refused
 refused-passes = refl
 
 once-passes : Passes once
-unfolding opened stateAt times log answerOf fed below sameRec sameRecs sameReplies member noneTwice isDone isSearch waits ended first precedes before once
+unfolding opened stateAt times log answerOf fed every sameRec sameReply same member noneTwice isDone isSearch waits ended first precedes once
 once-passes = refl
 
 noOther-passes : Passes noOther
-unfolding opened stateAt times log answerOf fed below sameRec sameRecs sameReplies member noneTwice isDone isSearch waits ended first precedes before noOther
+unfolding opened stateAt times log answerOf fed every sameRec sameReply same member noneTwice isDone isSearch waits ended first precedes noOther
 noOther-passes = refl
 
 sorted-passes : Passes sorted
-unfolding opened stateAt times log answerOf fed below sameRec sameRecs sameReplies member noneTwice isDone isSearch waits ended first precedes before sorted
+unfolding opened stateAt times log answerOf fed every sameRec sameReply same member noneTwice isDone isSearch waits ended first precedes sorted
 sorted-passes = refl
 
 held-passes : Passes held
-unfolding opened stateAt times log answerOf fed below sameRec sameRecs sameReplies member noneTwice isDone isSearch waits ended first precedes before held
+unfolding opened stateAt times log answerOf fed every sameRec sameReply same member noneTwice isDone isSearch waits ended first precedes held
 held-passes = refl
 
 listOnce-passes : Passes listOnce
-unfolding opened stateAt times log answerOf fed below sameRec sameRecs sameReplies member noneTwice isDone isSearch waits ended first precedes before listOnce
+unfolding opened stateAt times log answerOf fed every sameRec sameReply same member noneTwice isDone isSearch waits ended first precedes listOnce
 listOnce-passes = refl
 
 fileOnce-passes : Passes fileOnce
-unfolding opened stateAt times log answerOf fed below sameRec sameRecs sameReplies member noneTwice isDone isSearch waits ended first precedes before fileOnce
+unfolding opened stateAt times log answerOf fed every sameRec sameReply same member noneTwice isDone isSearch waits ended first precedes fileOnce
 fileOnce-passes = refl
 
 order-passes : Passes order
-unfolding opened stateAt times log answerOf fed below sameRec sameRecs sameReplies member noneTwice isDone isSearch waits ended first precedes before order
+unfolding opened stateAt times log answerOf fed every sameRec sameReply same member noneTwice isDone isSearch waits ended first precedes order
 order-passes = refl
 
 searches-passes : Passes searches
-unfolding opened stateAt times log answerOf fed below sameRec sameRecs sameReplies member noneTwice isDone isSearch waits ended first precedes before searches
+unfolding opened stateAt times log answerOf fed every sameRec sameReply same member noneTwice isDone isSearch waits ended first precedes searches
 searches-passes = refl
 
 progress-passes : Passes progress
-unfolding opened stateAt times log answerOf fed below sameRec sameRecs sameReplies member noneTwice isDone isSearch waits ended first precedes before progress
+unfolding opened stateAt times log answerOf fed every sameRec sameReply same member noneTwice isDone isSearch waits ended first precedes progress
 progress-passes = refl
 
 finished-passes : Passes finished
-unfolding opened stateAt times log answerOf fed below sameRec sameRecs sameReplies member noneTwice isDone isSearch waits ended first precedes before finished
+unfolding opened stateAt times log answerOf fed every sameRec sameReply same member noneTwice isDone isSearch waits ended first precedes finished
 finished-passes = refl

@@ -1,0 +1,295 @@
+-- A test that fails refutes the claim: where a field of `Explained` holds, the test of that name in Weighed is true.
+-- Each is shown from the field's statement alone. No law on turns or bytes is used, and no definition of the machine is opened, so it holds
+-- whatever the machine is: a job on which one of the twelve tests is false is not explained (`passes`).
+use Prim.Native.Nat.{ℕ, zero, suc, _<_, _≤_}
+use mathlib.Core.Path.{_≡_, refl, ap}
+use mathlib.Core.Logic.{_⊎_, inl, inr, _↔_}
+use mathlib.Core.List.{List, [], _∷_, map}
+use mathlib.Core.Bool.{Bool, true, false, not, _&&_, _||_, false≢true, or-true}
+use mathlib.Core.Option.{none}
+use native.Mathlib.Omega.{arith}
+use native.Mathlib.Decide.{ℕ-discrete}
+use lib.ListN.{length, getD}
+use lib.Dec.{eqb, ltb}
+use borrow.Author.Tests.{eqb-true, eqb-false, eq-eqb, ne-eqb, lt-ltb, not-false}
+use Rattle.spec.specs.declared.Rec.{Rec}
+use Rattle.spec.specs.declared.Kind.{Kind}
+use Rattle.spec.specs.declared.Kind.the-variants.{Search, Insert, Delete}
+use Rattle.spec.specs.declared.Stage.{Stage}
+use Rattle.spec.specs.declared.Stage.the-variants.{NotBegun, ReadPage, Reread, Lock, Held, Split, Done}
+use Rattle.spec.specs.Basics.{isSome, allOf}
+use Rattle.spec.specs.Code.{notYet, noDepth, noPage}
+use Rattle.spec.specs.File.{findIn, contents}
+use Rattle.spec.specs.Job.{Job, noOp}
+use Rattle.spec.specs.State.{State}
+use Rattle.spec.specs.Run.{stageOf, run}
+use Rattle.spec.specs.Result.{Line}
+use Rattle.spec.specs.PlainList.{Reply, replyOf}
+use Rattle.spec.specs.Proper.{NoneTwice, empty, more}
+use Rattle.spec.specs.Claims.{Has, here, there, stateAt, times, log, lineAt, opAt, answerOf, fed, FirstTurn, Ended, Waits, Before, Explained}
+use Rattle.laws.specs.Tools.{and-left, and-right}
+use Rattle.laws.specs.Weighed.{every, some-of, sameRec, sameReply, same, member, noneTwice, isDone, isSearch, waits, ended, first, precedes}
+use Rattle.laws.specs.Weighed.{answers, refused, once, noOther, sorted, held, listOnce, fileOnce, order, searches, progress, finished}
+
+-- tests joined: when they come out true
+is-not : {a : Bool} → (a ≡ true → ⊥) → not a ≡ true
+is-not {a = true} h = absurd (h refl)
+is-not {a = false} h = refl
+
+unless : {a : Bool} → (not a ≡ true → ⊥) → a ≡ true
+unless {a = true} h = refl
+unless {a = false} h = absurd (h refl)
+
+is-or : {a b : Bool} → (a ≡ false → b ≡ true) → (a || b) ≡ true
+is-or {a = true} h = refl
+is-or {a = false} h = h refl
+
+is-and : {a b : Bool} → a ≡ true → b ≡ true → (a && b) ≡ true
+is-and p q = rw (p, q)
+
+clash : {a : Bool} → a ≡ true → not a ≡ true → ⊥
+clash {a = true} p q = false≢true q
+clash {a = false} p q = false≢true p
+
+-- a test of every number below n, both ways; and of one
+every-true : (n : ℕ) (f : ℕ → Bool) → ((i : ℕ) → i < n → f i ≡ true) → every n f ≡ true
+unfolding every
+every-true zero f h = refl
+every-true (suc n) f h = is-and (h zero (omega arith)) (every-true n (λ i. f (suc i)) (λ i l. h (suc i) (omega arith)))
+
+every-at : (n : ℕ) (f : ℕ → Bool) → every n f ≡ true → (i : ℕ) → i < n → f i ≡ true
+unfolding every
+every-at zero f e i l = absurd (omega arith)
+every-at (suc n) f e zero l = and-left (f zero) _ e
+every-at (suc n) f e (suc i) l = every-at n (λ k. f (suc k)) (and-right (f zero) _ e) i (omega arith)
+
+some-true : (n : ℕ) (f : ℕ → Bool) (i : ℕ) → i < n → f i ≡ true → some-of n f ≡ true
+some-true n f i l p = is-not (λ e. clash p (every-at n (λ k. not (f k)) e i l))
+
+-- if one of them fails, another test holds
+every-or : (n : ℕ) (f : ℕ → Bool) (b : Bool) → ((i : ℕ) → i < n → not (f i) ≡ true → b ≡ true) → (every n f || b) ≡ true
+every-or n f true h = or-true (every n f)
+every-or n f false h = rw (every-true n f (λ i l. unless (λ d. false≢true (h i l d))))
+
+-- lists: when their tests come out true
+same-true : {A : Type 0} (f : A → A → Bool) → ((a : A) → f a a ≡ true) → {xs ys : List A} → xs ≡ ys → same f xs ys ≡ true
+unfolding same
+same-true f h {xs} e = rw (← e) (go xs)
+  where
+    go : (zs : List _) → same f zs zs ≡ true
+    go [] = refl
+    go (z ∷ zs) = is-and (h z) (go zs)
+
+sameRec-true : (a : Rec) → sameRec a a ≡ true
+unfolding sameRec
+sameRec-true a = is-and (eq-eqb (a .call) _ refl) (eq-eqb (a .charge) _ refl)
+
+sameReply-true : (a : Reply) → sameReply a a ≡ true
+unfolding sameReply
+sameReply-true a = is-and (eq-eqb (a .code) _ refl) (eq-eqb (a .charge) _ refl)
+
+member-true : {r : Rec} {rs : List Rec} → Has r rs → member r rs ≡ true
+unfolding member
+member-true {r} here = rw (sameRec-true r)
+member-true {r} (there {a} h) = is-or {a = sameRec a r} (λ e. member-true h)
+
+all-true : (f : Rec → Bool) (rs : List Rec) → ((r : Rec) → Has r rs → f r ≡ true) → allOf f rs ≡ true
+unfolding allOf
+all-true f [] h = refl
+all-true f (r ∷ rs) h = is-and (h r here) (all-true f rs (λ a k. h a (there k)))
+
+noneTwice-true : {rs : List Rec} → NoneTwice rs → noneTwice rs ≡ true
+unfolding noneTwice isSome
+noneTwice-true empty = refl
+noneTwice-true (more e h) = is-and (ap (λ x. not (isSome x)) e) (noneTwice-true h)
+
+-- what a test says that comes out true
+says-done : (x : Stage) → isDone x ≡ true → x ≡ Done
+unfolding isDone
+says-done NotBegun e = cc
+says-done (ReadPage x) e = cc
+says-done (Reread x t) e = cc
+says-done (Lock x) e = cc
+says-done (Held x t) e = cc
+says-done (Split x b n q) e = cc
+says-done Done e = refl
+
+undone : {x : Stage} → not (isDone x) ≡ true → x ≡ Done → ⊥
+unfolding isDone
+undone n e = clash (ap isDone e) n
+
+says-search : (k : Kind) → isSearch k ≡ true → k ≡ Search
+unfolding isSearch
+says-search Search e = refl
+says-search Insert e = cc
+says-search Delete e = cc
+
+says-waits : (s : State) (i : ℕ) → waits s i ≡ true → Waits s i
+unfolding waits
+says-waits s i e = record { unfinished = undone (and-left _ _ e); idles = and-right (not (isDone (stageOf s i))) _ e }
+
+says-ended : (j : Job) (i t : ℕ) → t < length (j .turns) → ended j i t ≡ true → Ended j i t
+unfolding ended
+says-ended j i t l e =
+    record {
+      within = l;
+      before = undone (and-left _ _ e);
+      after = says-done _ (and-right (not (isDone (stageOf (stateAt j t) i))) _ e);
+    }
+
+says-first : (j : Job) (i t : ℕ) → t < length (j .turns) → first j i t ≡ true → FirstTurn j i t
+unfolding first
+says-first j i t l e =
+    record {
+      within = l;
+      named = eqb-true _ _ (and-left _ _ e);
+      notBefore = λ u k n. clash (eq-eqb _ _ n) (every-at t _ (and-right (eqb (getD (j .turns) t 0) i) _ e) u k);
+    }
+
+says-refused : (k : ℕ) → (eqb k noDepth || eqb k noPage) ≡ true → (k ≡ noDepth) ⊎ (k ≡ noPage)
+says-refused k e = elim (ℕ-discrete k noDepth) [ yes p ↦ inl p | no n ↦ inr (eqb-true _ _ (rw (ne-eqb k noDepth n) at e)) ]
+
+precedes-true : (a b : Line) → Before a b → precedes a b ≡ true
+unfolding precedes
+precedes-true a b (inl l) = rw (lt-ltb _ _ l)
+precedes-true a b (inr h) = is-or {a = ltb (a .moment) (b .moment)} (λ e. is-and (eq-eqb _ _ (h .0)) (lt-ltb _ _ (h .1)))
+
+-- The fields, in the claim's order.
+pub answers-true : (j : Job) → fed j (length (log j)) .replies ≡ map (λ h. replyOf (answerOf j (h .op))) (log j) → answers j ≡ true
+unfolding answers
+answers-true j h = same-true sameReply sameReply-true h
+
+pub refused-true
+    : (j : Job)
+    → ((p : ℕ)
+    → p < length (log j)
+    → (answerOf j (lineAt j p .op) .code ≡ noDepth) ⊎ (answerOf j (lineAt j p .op) .code ≡ noPage)
+    → (findIn (fed j p .list) (opAt j p .call) ≡ none) × (fed j (suc p) .list ≡ fed j p .list))
+    → refused j ≡ true
+unfolding refused isSome
+refused-true j h =
+    every-true _ _
+    (λ p l.
+    is-or
+    (λ e.
+    let (missing, kept) = h p l (says-refused _ (not-false _ e)) in
+    is-and (ap (λ x. not (isSome x)) missing) (same-true sameRec sameRec-true kept)))
+
+pub once-true : (j : Job) → ((i : ℕ) → (answerOf j i .code ≡ notYet → ⊥) → times i (log j) ≡ 1) → once j ≡ true
+unfolding once
+once-true j h = every-true _ _ (λ i l. is-or (λ e. eq-eqb _ _ (h i (eqb-false _ _ e))))
+
+pub noOther-true : (j : Job) → ((i : ℕ) → answerOf j i .code ≡ notYet → times i (log j) ≡ 0) → noOther j ≡ true
+unfolding noOther
+noOther-true j h = every-true _ _ (λ i l. is-or (λ e. eq-eqb _ _ (h i (eqb-true _ _ (not-false _ e)))))
+
+pub sorted-true : (j : Job) → ((p q : ℕ) → p < q → q < length (log j) → Before (lineAt j p) (lineAt j q)) → sorted j ≡ true
+unfolding sorted
+sorted-true j h = every-true _ _ (λ q l. every-true _ _ (λ p k. precedes-true _ _ (h p q k l)))
+
+pub held-true : (j : Job) → ((r : Rec) → Has r (fed j (length (log j)) .list) ↔ Has r (contents (run j .file))) → held j ≡ true
+unfolding held
+held-true j h = is-and (all-true _ _ (λ r k. member-true (h r .0 k))) (all-true _ _ (λ r k. member-true (h r .1 k)))
+
+pub listOnce-true : (j : Job) → ((n : ℕ) → NoneTwice (fed j n .list)) → listOnce j ≡ true
+unfolding listOnce
+listOnce-true j h = every-true _ _ (λ n l. noneTwice-true (h n))
+
+pub fileOnce-true : (j : Job) → ((t : ℕ) → t ≤ length (j .turns) → NoneTwice (contents (stateAt j t .file))) → fileOnce j ≡ true
+unfolding fileOnce
+fileOnce-true j h = every-true _ _ (λ t l. noneTwice-true (h t (omega arith)))
+
+pub order-true
+    : (j : Job)
+    → ((p q t u : ℕ)
+    → p < length (log j)
+    → q < length (log j)
+    → Ended j (lineAt j p .op) t
+    → FirstTurn j (lineAt j q .op) u
+    → t < u
+    → p < q)
+    → order j ≡ true
+unfolding order
+order-true j h =
+    every-true _ _
+    (λ q l.
+    every-true _ _
+    (λ p k.
+    every-true _ _
+    (λ u m.
+    is-or
+    (λ f.
+    every-true _ _
+    (λ t n.
+    is-not
+    (λ e.
+    let later : q < p = h q p t u l (omega arith) (says-ended j _ t (omega arith) e) (says-first j _ u m (not-false _ f)) n in
+    omega arith))))))
+
+pub searches-true
+    : (j : Job)
+    → ((t i : ℕ) → t ≤ length (j .turns) → getD (j .ops) i noOp .kind ≡ Search → Waits (stateAt j t) i → ⊥)
+    → searches j ≡ true
+unfolding searches
+searches-true j h =
+    every-true _ _
+    (λ t l.
+    every-true _ _
+    (λ i k.
+    is-not
+    (λ e.
+    h t i (omega arith) (says-search _ (and-left _ _ e))
+    (says-waits _ i (and-right (isSearch (getD (j .ops) i noOp .kind)) _ e)))))
+
+pub progress-true
+    : (j : Job)
+    → ((i : ℕ)
+    → i < length (j .ops)
+    → (stageOf (run j) i ≡ Done → ⊥)
+    → (k : ℕ) × (k < length (j .ops)) × (stageOf (run j) k ≡ Done → ⊥) × (Waits (run j) k → ⊥))
+    → progress j ≡ true
+unfolding progress
+progress-true j h =
+    every-or _ (λ i. isDone (stageOf (run j) i)) _
+    (λ i l d.
+    let k = h i l (undone d) in
+    some-true _ (λ i. not (isDone (stageOf (run j) i)) && not (waits (run j) i)) (k .0) (k .1)
+    (is-and (is-not (λ x. k .2 (says-done _ x))) (is-not (λ x. k .3 (says-waits _ _ x)))))
+
+pub finished-true
+    : (j : Job)
+    → ((i : ℕ) → i < length (j .ops) → stageOf (run j) i ≡ Done → answerOf j i .code ≡ notYet → ⊥)
+    → finished j ≡ true
+unfolding finished
+finished-true j h = every-true _ _ (λ i l. is-or (λ e. is-not (λ c. h i l (says-done _ (not-false _ e)) (eqb-true _ _ c))))
+
+-- all of them
+pub passes
+    : (j : Job)
+    → Explained j
+    → (answers j ≡ true)
+    × (refused j ≡ true)
+    × (once j ≡ true)
+    × (noOther j ≡ true)
+    × (sorted j ≡ true)
+    × (held j ≡ true)
+    × (listOnce j ≡ true)
+    × (fileOnce j ≡ true)
+    × (order j ≡ true)
+    × (searches j ≡ true)
+    × (progress j ≡ true)
+    × (finished j ≡ true)
+passes j e = (
+  answers-true j (e .answers),
+  refused-true j (e .refused),
+  once-true j (e .once),
+  noOther-true j (e .noOther),
+  sorted-true j (e .sorted),
+  held-true j (e .held),
+  listOnce-true j (e .listOnce),
+  fileOnce-true j (e .fileOnce),
+  order-true j (e .order),
+  searches-true j (e .searches),
+  progress-true j (e .progress),
+  finished-true j (e .finished),
+)
