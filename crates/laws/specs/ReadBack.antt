@@ -17,13 +17,16 @@ use Rattle.spec.specs.Run.{rowOf, run}
 use Rattle.spec.specs.Result.{result}
 use Rattle.spec.specs.Check.{jobFault}
 use Rattle.spec.specs.Proper.{Each, end, PageNo, FileOk}
+use Rattle.spec.specs.Claims.{stateAt}
 use Rattle.laws.specs.Tools.{each-at}
 use Rattle.laws.specs.Codec.Back.{RecFits}
 use Rattle.laws.specs.Codec.Exact.{accepted-proper}
 use Rattle.laws.specs.Codec.Proper.{RecordsFit, OpProper, JobProper}
 use Rattle.laws.specs.Codec.Written.{file-accepted, file-comes-back}
 use Rattle.laws.specs.Turns.Again.{final-ok, final-file}
+use Rattle.laws.specs.Turns.States.{stateAt-end}
 use Rattle.laws.specs.Turns.Narrow.{EveryRecord, run-every}
+use Rattle.laws.specs.Turns.Fields.{cut, cut-run}
 
 -- calls and charges keep their 32 bits through a run: those of every page, and every charge that is answered
 page-records : (f : File) → FileOk f → RecordsFit f → EveryRecord RecFits f
@@ -41,12 +44,18 @@ op-record ops h i = by (decLe (suc i) (length ops))
     by (yes l) = let o = each-at ops i noOp l h .fits in record { call = o .call; charge = o .charge }
     by (no l) = rw (List·getD-eq-default ops noOp {n = i} (omega arith)) (record { call = omega arith; charge = omega arith })
 
-pub narrow : (j : Job) → JobProper j → EveryRecord RecFits (run j .file) × ((i : ℕ) → rowOf (run j) i .charge < 2 ^ 32)
-narrow j h =
+-- in the state before any turn t
+pub narrow-at : (j : Job) → JobProper j → (t : ℕ) → EveryRecord RecFits (stateAt j t .file) × ((i : ℕ) → rowOf (stateAt j t) i .charge < 2 ^ 32)
+unfolding cut
+narrow-at j h t =
     let e =
-    run-every RecFits (λ c. c < 2 ^ 32) (omega arith) (λ r w. w .charge) j (page-records (j .file) (h .file) (h .records))
+    run-every RecFits (λ c. c < 2 ^ 32) (omega arith) (λ r w. w .charge) (cut j t) (page-records (j .file) (h .file) (h .records))
     (op-record (j .ops) (h .ops)) in
-    (e .records, e .charges)
+    rw (← cut-run j t) (e .records, e .charges)
+
+-- and at the end
+pub narrow : (j : Job) → JobProper j → EveryRecord RecFits (run j .file) × ((i : ℕ) → rowOf (run j) i .charge < 2 ^ 32)
+narrow j h = rw (← stateAt-end j) (narrow-at j h (length (j .turns)))
 
 -- What a job with no operation under way at the end leaves: a charge file that is accepted, with no fault of 1 to 10, and is that file.
 pub record ReadsBack (b : List ℕ) : Type 0 where

@@ -47,3 +47,14 @@ pub mod Again
 pub mod Narrow
 pub mod Sizes
 pub mod Sample
+-- for the code: a split is each time the one decided; entries and depths only rise; look-ups in place of walks; numbers that fit
+pub mod Frozen
+pub mod Depths
+pub mod Writes
+pub mod Rising
+pub mod Followed
+pub mod Slots
+pub mod Interval
+pub mod GoesBy
+pub mod Fields
+pub mod Full
