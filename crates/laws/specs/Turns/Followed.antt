@@ -21,6 +21,7 @@ use Rattle.laws.specs.Turns.Tidy.{i-does}
 use Rattle.laws.specs.Turns.Settled.{Settled}
 use Rattle.laws.specs.Turns.Reads.{Reading, reading, rereading}
 use Rattle.laws.specs.Turns.States.{who, stateAt-suc, stateAt-zero}
+use Rattle.laws.specs.Turns.History.{new-reader}
 use Rattle.laws.specs.Turns.Whole.{whole}
 use Rattle.laws.specs.Turns.Writes.{Writes, i-writes}
 use Rattle.laws.specs.Turns.Rising.{Left, entry-after, Rising, rising}
@@ -31,15 +32,6 @@ Once s e x = (entryAt (s .file) e ≡ x) ⊎ Left s e x
 
 pub record Followed (ops : List Op) (s : State) : Type 0 where
   pub page : (i x : ℕ) → Reading (stageOf s i) x → Once s (homeOf (s .file) (getD ops i noOp)) x
-
--- a new reader reads a page that its entry names, or that it was to read
-new-reader
-    : (s : State) (op : Op) (st : Stage) {to : Stage} {x : ℕ}
-    → Starts s op st to
-    → Reading to x
-    → (entryAt (s .file) (homeOf (s .file) op) ≡ x) ⊎ Reading st x
-new-reader s op st z reading = inl z
-new-reader s op st z rereading = inr (rw (z .0) reading)
 
 module _ (ops : List Op) (s : State) (i : ℕ) (m : Move)
     (good : Good ops s)

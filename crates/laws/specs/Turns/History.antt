@@ -82,7 +82,7 @@ not-both reading u = elim u [ ]
 not-both rereading u = elim u [ ]
 
 -- a new reader reads a page that its entry names, or that it was to read
-new-reader
+pub new-reader
     : (s : State) (op : Op) (st : Stage) {to : Stage} {p : ℕ}
     → Starts s op st to
     → Reading to p
@@ -91,7 +91,7 @@ new-reader s op st z reading = inl z
 new-reader s op st z rereading = inr (rw (z .0) reading)
 
 -- new pages that no entry names are above those in use, or were such before
-new-pages
+pub new-pages
     : (s : State) (op : Op) (st : Stage) {to : Stage} {p : ℕ}
     → Starts s op st to
     → Unreached to p

@@ -32,6 +32,7 @@ use Rattle.laws.specs.Turns.Tidy.{i-does}
 use Rattle.laws.specs.Turns.Settled.{Settled}
 use Rattle.laws.specs.Turns.Reads.{unreached-entry}
 use Rattle.laws.specs.Turns.States.{who, stateAt-suc, stateAt-zero}
+use Rattle.laws.specs.Turns.History.{new-pages}
 use Rattle.laws.specs.Turns.Whole.{whole}
 use Rattle.laws.specs.Turns.Writes.{BeginsAt, PageAfter, same-page, WritesEntry, noEntry, oneEntry, WritesPage, Writes, i-writes}
 
@@ -167,14 +168,6 @@ pub record LeftNow (s : State) (st : Stage) (f' : File) (c : List Change) (e x :
   pub turn : changedAt c e x ≡ s .now
   pub deeper : pageAt (s .file) x .depth < pageAt f' (entryAt f' e) .depth
 
--- new pages that no entry names are above those in use, or were such before
-new-unreached
-    : (s : State) (op : Op) (st : Stage) {to : Stage} {x : ℕ}
-    → Starts s op st to
-    → Unreached to x
-    → Unreached st x ⊎ (s .file .used < x)
-new-unreached s op st z (fresh sp) = z _ sp
-
 module _ (ops : List Op) (s : State) (i : ℕ) (m : Move)
     (lt : i < length (s .rows))
     (good : Good ops s)
@@ -272,7 +265,7 @@ module _ (ops : List Op) (s : State) (i : ℕ) (m : Move)
     reached-after j e x k =
         stage-after s i m lt (λ j st. Unreached st x → ⊥)
         (λ u. ⊎-elim (λ v. old i v) (λ v. ⊎-elim (λ a. let z = h .higher e x a in let y = in-use e (h .within e x a) in omega arith)
-        (λ a. let y = in-use e (a .1) in omega (arith, a .0)) (was-left e x k)) (new-unreached s _ (stageOf s i) (d .starts) u))
+        (λ a. let y = in-use e (a .1) in omega (arith, a .0)) (was-left e x k)) (new-pages s _ (stageOf s i) (d .starts) u))
         (λ j n. old j)
         j
       where
