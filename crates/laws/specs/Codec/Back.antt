@@ -62,7 +62,7 @@ map-back : {A : Type 0} (dec : List ℕ → A) (enc : A → List ℕ) {xs : List
 map-back dec enc end = refl
 map-back dec enc (next e es) = ap₂ _∷_ e (map-back dec enc es)
 
-page-back : (c : ℕ) (p : Page) → PageFits c p → pageOf (pageBytes c p) ≡ p
+pub page-back : (c : ℕ) (p : Page) → PageFits c p → pageOf (pageBytes c p) ≡ p
 unfolding pageOf pageBytes byte word two
 page-back c p h = λ i. record { depth = p .depth; pattern = word-two (p .pattern) [] (h .pattern) i; records = records i }
   where

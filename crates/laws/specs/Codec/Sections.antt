@@ -35,7 +35,7 @@ length-op : (o : Op) → length (opBytes o) ≡ opSize
 unfolding opBytes four two
 length-op o = refl
 
-length-page : (c : ℕ) (p : Page) → length (p .records) ≤ c → length (pageBytes c p) ≡ pageSize c
+pub length-page : (c : ℕ) (p : Page) → length (p .records) ≤ c → length (pageBytes c p) ≡ pageSize c
 unfolding pageBytes two
 length-page c p l =
     rw (length-append, length-each recordBytes 8 (p .records) (every length-record (p .records)), length-replicate) (omega arith)

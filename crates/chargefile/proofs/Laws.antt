@@ -1,0 +1,32 @@
+-- A store to the first lent number, and what each case of a check hands over.
+use Prim.Native.Nat.{ℕ, zero, suc, _<_, _≤_}
+use mathlib.Core.Path.{_≡_, refl, sym, ap, _∙_}
+use mathlib.Core.List.{List, [], _∷_}
+use native.Mathlib.Omega.{arith}
+use lib.ListN.{length, set}
+use Rattle.spec.specs.declared.Checked.{Checked}
+use Rattle.spec.specs.declared.Checked.the-variants.{Accepted, Refused}
+use Rattle.chargefile.specs.Refusal.{numberFor, placeIn, placesAfter}
+
+pub place-set : (s : List ℕ) (p : ℕ) → 0 < length s → set s 0 p ≡ placeIn s p
+unfolding placeIn
+place-set [] p l = absurd (omega arith)
+place-set (x ∷ xs) p l = refl
+
+pub place-none : (s : List ℕ) (p : ℕ) → length s ≤ 0 → s ≡ placeIn s p
+unfolding placeIn
+place-none [] p l = refl
+place-none (x ∷ xs) p l = absurd (omega arith)
+
+pub told-accepted : (a b : Checked) (s : List ℕ) → a ≡ b → a ≡ Accepted → (0 ≡ numberFor b) × (s ≡ placesAfter b s)
+unfolding numberFor placesAfter
+told-accepted a b s e h = (ap numberFor (sym h ∙ e), ap (λ (c : Checked). placesAfter c s) (sym h ∙ e))
+
+pub told-refused
+    : (a b : Checked) (n p : ℕ) (s t : List ℕ)
+    → a ≡ b
+    → a ≡ Refused n p
+    → t ≡ placeIn s p
+    → (n ≡ numberFor b) × (t ≡ placesAfter b s)
+unfolding numberFor placesAfter
+told-refused a b n p s t e h u = (ap numberFor (sym h ∙ e), u ∙ ap (λ (c : Checked). placesAfter c s) (sym h ∙ e))

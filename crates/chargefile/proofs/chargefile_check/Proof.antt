@@ -1,0 +1,50 @@
+use borrow.Author.Needs.{needs}
+use Rattle.chargefile.proofs.Laws.{told-accepted, told-refused}
+use Rattle.chargefile.proofs.chargefile_check.Statement.{statement}
+use Rattle.chargefile.proofs.chargefile_check.Tie as tie
+use Rattle.chargefile.proofs.chargefile_check.Reads as reads
+use Rattle.chargefile.proofs.chargefile_check.Lts as lts
+use Rattle.chargefile.proofs.put_place.Reads as put-place-reads
+use Rattle.job.proofs.check.Reads as check-reads
+
+-- src/lib.rt:22:9
+check-requires : tie.Need-check-requires
+check-requires c κs = search needs
+
+-- src/lib.rt:24:30
+enum-told : tie.Need-enum-told
+enum-told c = search needs
+
+-- src/lib.rt:25:26
+enum-known-c : tie.Need-enum-known-c
+enum-known-c c = search needs
+
+-- src/lib.rt:26:13
+put-place-requires : tie.Need-put-place-requires
+put-place-requires c κs = search needs
+
+-- src/lib.rt:18:1
+returns : tie.Need-returns
+returns c = told-accepted _ _ _ (c .before .before .check .ensures) (c .enum-told .given .1)
+
+-- src/lib.rt:18:1
+same-length : tie.Need-same-length
+same-length c = search needs
+
+-- src/lib.rt:18:1
+returns-2 : tie.Need-returns-2
+returns-2 c =
+    let k = c .before .before .before .before .before in
+    told-refused _ _ _ _ _ _ (k .before .before .check .ensures) (k .c .given .1) (c .before .before .put-place .ensures)
+
+pub chargefile-check-spec : {M : Type 1} → statement M
+chargefile-check-spec =
+    tie.close
+    (tie.spec
+    check-requires
+    enum-told
+    enum-known-c
+    put-place-requires
+    returns
+    same-length
+    returns-2)

@@ -1,0 +1,107 @@
+-- Bytes that begin a page: records written behind the head, a page's own records, and the page's image once it is closed.
+use mathlib.Core.Path.{_≡_, refl, sym, ap, _∙_}
+use mathlib.Core.Logic.{inr}
+use mathlib.Core.List.{List, [], _∷_, _++_, append-assoc}
+use Prim.Native.Nat.{ℕ, zero, suc, _+_, _-_, _*_, _≤_, _<_}
+use native.Mathlib.Omega.{arith}
+use lib.ListN.{length, set, replicate, length-append, length-replicate}
+use Rattle.spec.specs.declared.Rec.{Rec}
+use Rattle.spec.specs.Basics.{each}
+use Rattle.spec.specs.Bytes.{byte, two, four, long}
+use Rattle.spec.specs.Job.{pageSize}
+use Rattle.spec.specs.Encode.{recordBytes, pageBytes}
+use Rattle.spec.specs.Decode.{pageOf}
+use Rattle.spec.specs.Split.{added}
+use Rattle.wire.specs.Over.{over}
+use Rattle.wire.specs.OverLaws.{over-none, over-over, over-swap, over-whole, length-over}
+use Rattle.wire.specs.Reads.{over-long, long-over-other}
+use Rattle.page.specs.Room.{room, Sound}
+use Rattle.page.specs.View.{recordAt, recordsFrom, record-read, records-none, records-cons, records-all}
+use Rattle.page.specs.Image.{closed}
+use Rattle.page.specs.Lists.{each-snoc, each-length}
+
+pub record-length : (r : Rec) → length (recordBytes r) ≡ 8
+unfolding recordBytes four two
+record-length r = refl
+
+pub records-size : (rs : List Rec) → length (each recordBytes rs) ≡ 8 * length rs
+records-size rs = each-length recordBytes 8 record-length rs
+
+-- a record by its two numbers
+pub over-record : (s : List ℕ) (at : ℕ) (r : Rec) → over (over s at (four (r .call))) (at + 4) (four (r .charge)) ≡ over s at (recordBytes r)
+unfolding recordBytes four two
+over-record s at r = over-over (four (r .call)) (four (r .charge)) s at (at + 4) refl
+
+-- one record more behind m others
+pub over-more
+    : (s : List ℕ) (rs : List Rec) (m : ℕ) (r : Rec)
+    → length rs ≡ m
+    → over (over s 4 (each recordBytes rs)) (pageSize m) (recordBytes r) ≡ over s 4 (each recordBytes (rs ++ (r ∷ [])))
+over-more s rs m r e =
+    rw (each-snoc recordBytes rs r)
+    (over-over (each recordBytes rs) (recordBytes r) s 4 (pageSize m) (omega (arith, records-size rs)))
+
+-- a record behind what is written is as it was
+pub record-behind
+    : (s x : List ℕ) (j : ℕ)
+    → length x ≤ 8 * j
+    → recordAt (over s 4 x) j ≡ recordAt s j
+record-behind s x j h =
+    record-read (over s 4 x) j
+    ∙ rw (long-over-other x s 4 (4 + 8 * j) (inr (omega arith)), long-over-other x s 4 (8 + 8 * j) (inr (omega arith))) (sym (record-read s j))
+
+-- ---- records written where they stand change nothing: this is where a byte's bound is used
+
+own : (s : List ℕ) (i : ℕ) → ((k : ℕ) → byte s k < 256) → over s (pageSize i) (recordBytes (recordAt s i)) ≡ s
+own s i b =
+    let e : 4 + 8 * i + 4 ≡ 8 + 8 * i = omega arith in
+    rw (record-read s i, ← over-record s (pageSize i) (record { call = long s (4 + 8 * i); charge = long s (8 + 8 * i) }), over-long s (4 + 8 * i) b, e)
+    (over-long s (8 + 8 * i) b)
+
+owns : (s : List ℕ) (i n : ℕ) → ((k : ℕ) → byte s k < 256) → over s (pageSize i) (each recordBytes (recordsFrom s i n)) ≡ s
+unfolding each
+owns s i zero b = rw (records-none s i) (over-none s (pageSize i))
+owns s i (suc n) b =
+    let more = over-over (recordBytes (recordAt s i)) (each recordBytes (recordsFrom s (suc i) n)) s (pageSize i) (pageSize (suc i)) (omega (arith, record-length (recordAt s i))) in
+    rw (records-cons s i n) (sym more ∙ rw (own s i b) (owns s (suc i) n b))
+
+pub over-records : (s : List ℕ) → ((k : ℕ) → byte s k < 256) → over s 4 (each recordBytes (pageOf s .records)) ≡ s
+over-records s b = rw (records-all s) (owns s 0 (byte s 1) b)
+
+-- ---- closed: the page's image
+
+pub over-head : (s : List ℕ) (d n pattern : ℕ) → over (set (set s 0 d) 1 n) 2 (two pattern) ≡ over s 0 (d ∷ n ∷ two pattern)
+unfolding over
+over-head s d n pattern = refl
+
+pub closed-image
+    : (s : List ℕ) (rs : List Rec) (d n pattern : ℕ)
+    → length s ≡ pageSize (room (length s))
+    → length rs ≡ n
+    → n ≤ room (length s)
+    → closed (over s 4 (each recordBytes rs)) d n pattern
+    ≡ pageBytes (room (length s)) (record { depth = d; pattern = pattern; records = rs })
+unfolding closed pageBytes two
+closed-image s rs d n pattern e f h =
+    let x = each recordBytes rs in
+    let head : List ℕ = d ∷ n ∷ two pattern in
+    let gap : length (over s 4 x) - pageSize n ≡ 8 * (room (length s) - n) = omega (arith, length-over s 4 x) in
+    let z : List ℕ = replicate (8 * (room (length s) - n)) 0 in
+    let zeros : length z ≡ 8 * (room (length s) - n) = length-replicate (8 * (room (length s) - n)) 0 in
+    let all : length (head ++ (x ++ z)) ≡ length s = omega (arith, length-append x z, records-size rs) in
+    rw (gap, over-over x z s 4 (pageSize n) (omega (arith, records-size rs)), over-swap head (x ++ z) s 0 4 (omega arith), over-over head (x ++ z) s 0 4 refl, over-whole (head ++ (x ++ z)) s all, f)
+    (sym (append-assoc head x z))
+
+-- one record more behind a page's own
+pub added-image
+    : (s : List ℕ) (r : Rec) (n : ℕ)
+    → ((k : ℕ) → byte s k < 256)
+    → Sound s
+    → n ≡ length (pageOf s .records)
+    → n < room (length s)
+    → closed (over s (pageSize n) (recordBytes r)) (pageOf s .depth) (n + 1) (pageOf s .pattern) ≡ pageBytes (room (length s)) (added (pageOf s) r)
+unfolding added
+added-image s r n b o e h =
+    let rs = pageOf s .records in
+    let more = ap (λ (t : List ℕ). over t (pageSize n) (recordBytes r)) (sym (over-records s b)) ∙ over-more s rs n r (sym e) in
+    rw more (closed-image s (rs ++ (r ∷ [])) (pageOf s .depth) (n + 1) (pageOf s .pattern) (o .size) (omega (arith, length-append rs (r ∷ []))) (omega arith))

@@ -1,0 +1,79 @@
+-- The loop that keeps some of a page's records in place, turn by turn.
+use mathlib.Core.Path.{_≡_, sym, ap, _∙_}
+use mathlib.Core.Bool.{Bool, true, false}
+use mathlib.Core.List.{List, [], _∷_, _++_, append-nil}
+use Prim.Native.Nat.{ℕ, _+_, _≤_, _<_}
+use native.Mathlib.Nat.{zero-add}
+use native.Mathlib.Numerals.{add-one}
+use native.Mathlib.Omega.{arith}
+use lib.ListN.{length, length-append}
+use Rattle.spec.specs.declared.Rec.{Rec}
+use Rattle.spec.specs.Basics.{each, filter}
+use Rattle.spec.specs.Bytes.{byte}
+use Rattle.spec.specs.Job.{pageSize}
+use Rattle.spec.specs.Encode.{recordBytes, pageBytes}
+use Rattle.spec.specs.Decode.{pageOf}
+use Rattle.wire.specs.Over.{over}
+use Rattle.wire.specs.OverLaws.{over-none, length-over}
+use Rattle.page.specs.View.{recordAt, recordsFrom, records-all, records-none, records-snoc, records-length}
+use Rattle.page.specs.Room.{room, Sound}
+use Rattle.page.specs.Image.{closed}
+use Rattle.page.specs.Keep.{Kept}
+use Rattle.page.specs.Lists.{filter-nil, filter-take, filter-skip, filter-snoc, filter-le}
+use Rattle.page.specs.ImageLaws.{records-size, over-more, record-behind, closed-image}
+
+pub kept-start : (f : Rec → Bool) (s : List ℕ) → Kept f s s 0 0
+unfolding each
+kept-start f s = record { many = rw (records-none s 0, filter-nil f); bytes = rw (records-none s 0, filter-nil f) (sym (over-none s 4)) }
+
+module _ {f : Rec → Bool} {s t : List ℕ} {m j : ℕ} (k : Kept f s t m j) where
+  pub kept-few : m ≤ j
+  kept-few = omega (arith, k .many, filter-le f (recordsFrom s 0 j), records-length s 0 j)
+
+  pub kept-length : length t ≡ length s
+  kept-length = ap length (k .bytes) ∙ length-over s 4 (each recordBytes (filter f (recordsFrom s 0 j)))
+
+  -- a record that is not read yet is as it was
+  pub kept-behind : recordAt t j ≡ recordAt s j
+  kept-behind =
+      let x = filter f (recordsFrom s 0 j) in
+      ap (λ (l : List ℕ). recordAt l j) (k .bytes) ∙ record-behind s (each recordBytes x) j (omega (arith, records-size x, k .many, kept-few))
+
+  next : filter f (recordsFrom s 0 (j + 1)) ≡ filter f (recordsFrom s 0 j) ++ filter f (recordAt s j ∷ [])
+  next = rw (add-one, records-snoc s 0 j, zero-add) (filter-snoc f (recordsFrom s 0 j) (recordAt s j))
+
+  pub kept-skip : f (recordAt s j) ≡ false → Kept f s t m (j + 1)
+  kept-skip e =
+      let same : filter f (recordsFrom s 0 (j + 1)) ≡ filter f (recordsFrom s 0 j) =
+      next ∙ rw (filter-skip f (recordAt s j) [] e, filter-nil f) (append-nil (filter f (recordsFrom s 0 j))) in
+      record { many = rw same (k .many); bytes = rw same (k .bytes) }
+
+  pub kept-take : f (recordAt s j) ≡ true → Kept f s (over t (pageSize m) (recordBytes (recordAt s j))) (m + 1) (j + 1)
+  kept-take e =
+      let x = filter f (recordsFrom s 0 j) in
+      let more : filter f (recordsFrom s 0 (j + 1)) ≡ x ++ (recordAt s j ∷ []) = next ∙ rw (filter-take f (recordAt s j) [] e, filter-nil f) in
+      record {
+        many = rw (more, length-append) (omega (arith, k .many));
+        bytes = rw (k .bytes, more) (over-more s x m (recordAt s j) (k .many));
+      }
+
+-- ---- all records were seen: how many were kept; the page's image, once it is closed; and with one record more
+
+pub kept-all : {f : Rec → Bool} {s t : List ℕ} {m : ℕ} → Kept f s t m (byte s 1) → length (filter f (pageOf s .records)) ≡ m
+kept-all {f} {s} k = rw (records-all s) (k .many)
+
+module _ {f : Rec → Bool} {s t : List ℕ} {m : ℕ} (k : Kept f s t m (byte s 1)) (o : Sound s) (d pattern : ℕ) where
+  pub kept-image : closed t d m pattern ≡ pageBytes (room (length s)) (record { depth = d; pattern = pattern; records = filter f (pageOf s .records) })
+  kept-image =
+      rw (k .bytes, records-all s)
+      (closed-image s (filter f (recordsFrom s 0 (byte s 1))) d m pattern (o .size) (k .many) (omega (arith, kept-few k, o .few)))
+
+  pub kept-image-more
+      : (r : Rec)
+      → m < room (length s)
+      → closed (over t (pageSize m) (recordBytes r)) d (m + 1) pattern
+      ≡ pageBytes (room (length s)) (record { depth = d; pattern = pattern; records = filter f (pageOf s .records) ++ (r ∷ []) })
+  kept-image-more r h =
+      let x = filter f (recordsFrom s 0 (byte s 1)) in
+      rw (k .bytes, over-more s x m r (k .many), records-all s)
+      (closed-image s (x ++ (r ∷ [])) d (m + 1) pattern (o .size) (omega (arith, length-append x (r ∷ []), k .many)) (omega arith))

@@ -1,0 +1,91 @@
+// The page functions under plain names, for the tests alone: each takes one page's bytes. What `requires` asks, the tests' wrappers test.
+use spec::Found;
+use spec::Rec;
+ghost use mathlib.Core.Path.{_≡_};
+ghost use Prim.Native.Nat.{ℕ, suc, _-_, _≤_, _<_};
+ghost use lib.ListN.{length, getD};
+ghost use Rattle.spec.specs.Bytes.{byte};
+ghost use Rattle.spec.specs.File.{zeroPage, findIn};
+ghost use Rattle.spec.specs.Job.{pageSize};
+ghost use Rattle.spec.specs.Decode.{pageOf};
+ghost use Rattle.spec.specs.Encode.{pageBytes};
+ghost use Rattle.spec.specs.Split.{added, grow, splitCount};
+ghost use Rattle.spec.specs.Turn.{cleared};
+ghost use Rattle.spec.specs.Cases.{foundOf};
+ghost use Rattle.spec.specs.declared.Rec.{Rec as RecV};
+ghost use Rattle.page.specs.Room.{room, Sound};
+ghost use Rattle.page.specs.Splits.{Splits, Enough};
+ghost use Rattle.probe.specs.Numbers.{foundNumber, recFor};
+
+// The charge of a call in a page, or 2^32 where it is not there.
+#[no_mangle]
+pub extern "C" fn probe_find(page: &[u8], call: u32) -> u64
+    requires { ⌜ pageSize (byte (now page) 1) ≤ length (now page) ⌝ }
+    ensures { λ r. ⌜ r ≡ foundNumber (foundOf (findIn (pageOf (now (page .entry)) .records) call)) ⌝ }
+{
+    let f = page::find(page, call);
+    match f {
+        Found::Charge(charge) => charge as u64,
+        Found::Missing => 4294967296,
+    }
+}
+
+#[no_mangle]
+pub extern "C" fn probe_append(page: &mut [u8], call: u32, charge: u32)
+    requires { ⌜ Sound (now page) × (byte (now page) 1 < room (length (now page))) ⌝ }
+    ensures { λ _. ⌜ now (page .exit) ≡ pageBytes (room (length (now (page .entry)))) (added (pageOf (now (page .entry))) (recFor call charge)) ⌝ }
+{
+    page::append(
+        page,
+        Rec {
+            call: call,
+            charge: charge,
+        },
+    );
+}
+
+#[no_mangle]
+pub extern "C" fn probe_remove(page: &mut [u8], call: u32)
+    requires { ⌜ Sound (now page) ⌝ }
+    ensures { λ _. ⌜ now (page .exit) ≡ pageBytes (room (length (now (page .entry)))) (cleared (pageOf (now (page .entry))) call) ⌝ }
+{
+    page::remove(page, call);
+}
+
+#[no_mangle]
+pub extern "C" fn probe_split_count(page: &[u8], call: u32) -> usize
+    requires { ⌜ pageSize (byte (now page) 1) ≤ length (now page) ⌝ }
+    ensures { λ r. ⌜ r ≡ splitCount (pageOf (now (page .entry))) call ⌝ }
+{
+    page::split_count(page, call)
+}
+
+#[no_mangle]
+pub extern "C" fn probe_write_old(page: &mut [u8], call: u32, charge: u32)
+    requires { ⌜ Sound (now page) × Splits (room (length (now page))) (pageOf (now page)) (recFor call charge) ⌝ }
+    ensures { λ _. ⌜ ((g : ℕ) → Enough g (pageOf (now (page .entry))) (recFor call charge) → now (page .exit) ≡ pageBytes (room (length (now (page .entry)))) (grow (room (length (now (page .entry)))) (suc g) (pageOf (now (page .entry))) (recFor call charge) .old)) ⌝ }
+{
+    page::write_old(
+        page,
+        Rec {
+            call: call,
+            charge: charge,
+        },
+    );
+}
+
+// New page i, from 1, in a copy of the split page.
+#[no_mangle]
+pub extern "C" fn probe_write_new(page: &mut [u8], i: usize, call: u32, charge: u32)
+    requires { ⌜ Sound (now page) × Splits (room (length (now page))) (pageOf (now page)) (recFor call charge) × (1 ≤ i) × (i ≤ splitCount (pageOf (now page)) call) ⌝ }
+    ensures { λ _. ⌜ ((g : ℕ) → Enough g (pageOf (now (page .entry))) (recFor call charge) → now (page .exit) ≡ pageBytes (room (length (now (page .entry)))) (getD (grow (room (length (now (page .entry)))) (suc g) (pageOf (now (page .entry))) (recFor call charge) .news) (i - 1) zeroPage)) ⌝ }
+{
+    page::write_new(
+        page,
+        i,
+        Rec {
+            call: call,
+            charge: charge,
+        },
+    );
+}

@@ -1,0 +1,8 @@
+-- what the contracts cite
+pub mod Over
+pub mod Wrote
+-- laws for callers' proofs
+pub mod OverLaws
+pub mod Reads
+pub mod Parts
+pub mod WroteLaws
