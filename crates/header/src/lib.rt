@@ -2,7 +2,7 @@
 mod sections;
 
 ghost use mathlib.Core.Path.{_≡_};
-ghost use Prim.Native.Nat.{_+_, _*_, _^_, _≤_};
+ghost use Prim.Native.Nat.{_^_, _≤_};
 ghost use lib.ListN.{length};
 ghost use Rattle.spec.specs.Job.{headerSize, pageSize, tableOffset, opsOffset, turnsOffset, total, pagePlace, opPlace, turnPlace};
 ghost use Rattle.spec.specs.Decode.{headerOf};

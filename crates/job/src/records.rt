@@ -2,7 +2,7 @@
 use header::Header;
 use spec::Spot;
 ghost use mathlib.Core.Path.{_≡_};
-ghost use Prim.Native.Nat.{_+_, _≤_, _<_};
+ghost use Prim.Native.Nat.{_≤_, _<_};
 ghost use lib.ListN.{getD, take};
 ghost use Rattle.spec.specs.Basics.{isSome, firstOf};
 ghost use Rattle.spec.specs.Bytes.{byte};

@@ -1,11 +1,11 @@
 -- The records that a page's bytes show, one by one.
-use mathlib.Core.Path.{_≡_, refl, ap}
+use mathlib.Core.Path.{_≡_, refl, ap, _∙_}
 use mathlib.Core.List.{List, [], _∷_, _++_, map}
 use Prim.Native.Nat.{ℕ, zero, suc, _+_, _-_, _*_, _≤_, _<_}
-use native.Mathlib.Nat.{add-zero, sub-zero}
+use native.Mathlib.Nat.{add-zero, zero-add, sub-zero}
 use native.Mathlib.Numerals.{add-one}
 use native.Mathlib.Omega.{arith}
-use lib.ListN.{length, take, drop}
+use lib.ListN.{length, getD, take, drop}
 use lib.Seq.{drop-drop}
 use Rattle.spec.specs.declared.Rec.{Rec}
 use Rattle.spec.specs.Bytes.{byte, long, parts}
@@ -56,6 +56,17 @@ records-length s i (suc n) = rw (records-cons s i n) (ap suc (records-length s (
 -- the page's own count
 pub count-is : (s : List ℕ) → length (pageOf s .records) ≡ byte s 1
 count-is s = rw (records-all s) (records-length s 0 (byte s 1))
+
+-- the page's own records, by number
+records-at : (s : List ℕ) (i n j : ℕ) (d : Rec) → j < n → getD (recordsFrom s i n) j d ≡ recordAt s (i + j)
+records-at s i zero j d h = absurd (omega arith)
+records-at s i (suc n) zero d h = rw (records-cons s i n, add-zero)
+records-at s i (suc n) (suc j) d h =
+    let e : i + suc j ≡ suc i + j = omega arith in
+    rw (records-cons s i n, e) (records-at s (suc i) n j d (omega arith))
+
+pub record-is : (s : List ℕ) (i : ℕ) (d : Rec) → i < byte s 1 → getD (pageOf s .records) i d ≡ recordAt s i
+record-is s i d h = rw (records-all s) (records-at s 0 (byte s 1) i d h ∙ ap (recordAt s) (zero-add i))
 
 -- ---- a loop over n records has passed i of them: what is left
 

@@ -1,4 +1,7 @@
+use mathlib.Core.Path.{_≡_}
+use mathlib.Core.List.{[], _∷_}
 use native.Mathlib.Omega.{arith}
+use lib.Dec.{ltb}
 use borrow.Author.Tests.{lt-ltb, le-ltb}
 use Rattle.spec.specs.Basics.{when, orElse, among}
 use Rattle.spec.specs.Check.{overLimit}
@@ -40,34 +43,29 @@ returns-4 c =
     let q1 = q2 .before .before in
     rw (← q1 .before .before .before .pre, le-ltb _ _ (q1 .if1 .left), ← q2 .before .is-outside .ensures, q2 .if2 .left, ← q3 .before .is-outside2 .ensures, q3 .if3 .left, ← c .before .is-outside3 .ensures, c .if4 .taken)
 
-returns-5 : tie.Need-returns-5
-unfolding overLimit among when orElse spotOf
-returns-5 c =
-    let q4 = c .before .before in
-    let q3 = q4 .before .before in
+-- none of the first four tests holds
+past
+    : (c : tie.Else4)
+    → let a = c .before .before .before .before .before .before .before .before .before .args in
+    overLimit (a .job .now) ≡ among (when (ltb 256 (a .h .ops)) 8 ∷ when (ltb 16384 (a .h .turns)) 10 ∷ [])
+unfolding overLimit among when orElse
+past c =
+    let q3 = c .before .before in
     let q2 = q3 .before .before in
     let q1 = q2 .before .before in
-    rw (← q1 .before .before .before .pre, le-ltb _ _ (q1 .if1 .left), ← q2 .before .is-outside .ensures, q2 .if2 .left, ← q3 .before .is-outside2 .ensures, q3 .if3 .left, ← q4 .before .is-outside3 .ensures, q4 .if4 .left, lt-ltb _ _ (c .if5 .taken))
+    rw (← q1 .before .before .before .pre, le-ltb _ _ (q1 .if1 .left), ← q2 .before .is-outside .ensures, q2 .if2 .left, ← q3 .before .is-outside2 .ensures, q3 .if3 .left, ← c .before .is-outside3 .ensures, c .if4 .left)
+
+returns-5 : tie.Need-returns-5
+unfolding among when orElse spotOf
+returns-5 c = rw (past (c .before .before), lt-ltb _ _ (c .if5 .taken))
 
 returns-6 : tie.Need-returns-6
-unfolding overLimit among when orElse spotOf
-returns-6 c =
-    let q5 = c .before .before in
-    let q4 = q5 .before .before in
-    let q3 = q4 .before .before in
-    let q2 = q3 .before .before in
-    let q1 = q2 .before .before in
-    rw (← q1 .before .before .before .pre, le-ltb _ _ (q1 .if1 .left), ← q2 .before .is-outside .ensures, q2 .if2 .left, ← q3 .before .is-outside2 .ensures, q3 .if3 .left, ← q4 .before .is-outside3 .ensures, q4 .if4 .left, le-ltb _ _ (q5 .if5 .left), lt-ltb _ _ (c .if6 .taken))
+unfolding among when orElse spotOf
+returns-6 c = let q5 = c .before .before in rw (past (q5 .before .before), le-ltb _ _ (q5 .if5 .left), lt-ltb _ _ (c .if6 .taken))
 
 returns-7 : tie.Need-returns-7
-unfolding overLimit among when orElse spotOf
-returns-7 c =
-    let q5 = c .before .before in
-    let q4 = q5 .before .before in
-    let q3 = q4 .before .before in
-    let q2 = q3 .before .before in
-    let q1 = q2 .before .before in
-    rw (← q1 .before .before .before .pre, le-ltb _ _ (q1 .if1 .left), ← q2 .before .is-outside .ensures, q2 .if2 .left, ← q3 .before .is-outside2 .ensures, q3 .if3 .left, ← q4 .before .is-outside3 .ensures, q4 .if4 .left, le-ltb _ _ (q5 .if5 .left), le-ltb _ _ (c .if6 .left))
+unfolding among when orElse spotOf
+returns-7 c = let q5 = c .before .before in rw (past (q5 .before .before), le-ltb _ _ (q5 .if5 .left), le-ltb _ _ (c .if6 .left))
 
 pub over-limit-spec : {M : Type 1} → statement M
 over-limit-spec =

@@ -1,8 +1,13 @@
+use mathlib.Core.Bool.{not, _&&_, _||_}
 use mathlib.Core.Path.{_≡_}
-use Prim.Native.Nat.{_*_, _%_, _^_}
+use Prim.Native.Nat.{_+_, _*_, _%_, _^_}
 use native.Mathlib.Omega.{arith}
+use lib.ListN.{drop}
+use lib.Dec.{ltb}
 use borrow.Author.Tests.{lt-ltb, le-ltb, le-leb, lt-leb}
+use Rattle.spec.specs.Bytes.{zeros}
 use Rattle.spec.specs.Check.{badPage}
+use Rattle.header.specs.Counts.{countsOf}
 use Rattle.job.proofs.Sizes.{shifted}
 use Rattle.job.proofs.table.bad_page.Statement.{statement}
 use Rattle.job.proofs.table.bad_page.Tie as tie
@@ -41,6 +46,19 @@ returns-3 c =
     let q1 = q2 .before .before in
     rw (← q1 .before .before .before .u8-at .ensures .0, ← q1 .before .before .u8-at2 .ensures .0, le-ltb _ _ (q1 .if1 .left), ← q2 .before .u16-at .ensures .0, lt-leb _ _ (rw (two-to q1) at (q2 .if2 .left)), lt-ltb _ _ (c .if3 .taken))
 
+-- depth, pattern and count are as they should be
+past
+    : (c : tie.Else3)
+    → let a = c .before .before .before .before .before .before .before .before .before .args in
+    let p = a .page .now in
+    badPage (countsOf (a .h)) (a .x) p
+    ≡ (not (zeros (drop (4 + 8 * c .before .before .before .before .before .before .u8-at2 .result) p)) || (ltb (a .h .used) (a .x) && not (zeros p)))
+unfolding badPage
+past c =
+    let q2 = c .before .before in
+    let q1 = q2 .before .before in
+    rw (← q1 .before .before .before .u8-at .ensures .0, ← q1 .before .before .u8-at2 .ensures .0, le-ltb _ _ (q1 .if1 .left), ← q2 .before .u16-at .ensures .0, lt-leb _ _ (rw (two-to q1) at (q2 .if2 .left)), le-ltb _ _ (c .if3 .left))
+
 mul-is-zero : tie.Need-mul-is-zero
 mul-is-zero c = omega arith
 
@@ -51,33 +69,20 @@ is-zero-requires : tie.Need-is-zero-requires
 is-zero-requires c κs = omega arith
 
 returns-4 : tie.Need-returns-4
-unfolding badPage
-returns-4 c =
-    let q3 = c .before .before in
-    let q2 = q3 .before .before in
-    let q1 = q2 .before .before in
-    rw (← q1 .before .before .before .u8-at .ensures .0, ← q1 .before .before .u8-at2 .ensures .0, le-ltb _ _ (q1 .if1 .left), ← q2 .before .u16-at .ensures .0, lt-leb _ _ (rw (two-to q1) at (q2 .if2 .left)), le-ltb _ _ (q3 .if3 .left), ← c .before .is-zero .ensures, c .if4 .taken)
+returns-4 c = rw (past (c .before .before), ← c .before .is-zero .ensures, c .if4 .taken)
 
 is-zero-requires-2 : tie.Need-is-zero-requires-2
 is-zero-requires-2 c κs = omega arith
 
 returns-5 : tie.Need-returns-5
-unfolding badPage
 returns-5 c =
     let q4 = c .before .before .before in
-    let q3 = q4 .before .before in
-    let q2 = q3 .before .before in
-    let q1 = q2 .before .before in
-    rw (← q1 .before .before .before .u8-at .ensures .0, ← q1 .before .before .u8-at2 .ensures .0, le-ltb _ _ (q1 .if1 .left), ← q2 .before .u16-at .ensures .0, lt-leb _ _ (rw (two-to q1) at (q2 .if2 .left)), le-ltb _ _ (q3 .if3 .left), ← q4 .before .is-zero .ensures, q4 .if4 .left, lt-ltb _ _ (c .before .if5 .taken), ← c .is-zero2 .ensures)
+    rw (past (q4 .before .before), ← q4 .before .is-zero .ensures, q4 .if4 .left, lt-ltb _ _ (c .before .if5 .taken), ← c .is-zero2 .ensures)
 
 returns-6 : tie.Need-returns-6
-unfolding badPage
 returns-6 c =
     let q4 = c .before .before in
-    let q3 = q4 .before .before in
-    let q2 = q3 .before .before in
-    let q1 = q2 .before .before in
-    rw (← q1 .before .before .before .u8-at .ensures .0, ← q1 .before .before .u8-at2 .ensures .0, le-ltb _ _ (q1 .if1 .left), ← q2 .before .u16-at .ensures .0, lt-leb _ _ (rw (two-to q1) at (q2 .if2 .left)), le-ltb _ _ (q3 .if3 .left), ← q4 .before .is-zero .ensures, q4 .if4 .left, le-ltb _ _ (c .if5 .left))
+    rw (past (q4 .before .before), ← q4 .before .is-zero .ensures, q4 .if4 .left, le-ltb _ _ (c .if5 .left))
 
 pub bad-page-spec : {M : Type 1} → statement M
 bad-page-spec =
