@@ -6,7 +6,11 @@ use native.Mathlib.Omega.{arith}
 use lib.ListN.{length, set}
 use Rattle.spec.specs.declared.Checked.{Checked}
 use Rattle.spec.specs.declared.Checked.the-variants.{Accepted, Refused}
-use Rattle.chargefile.specs.Refusal.{numberFor, placeIn, placesAfter}
+use Rattle.spec.specs.declared.Outcome.{Outcome}
+use Rattle.spec.specs.declared.Outcome.the-variants.{Ran, Refused as Turned}
+use Rattle.run.specs.Call.{Settled}
+use Rattle.chargefile.specs.Refusal.{numberFor, placeIn, placesAfter, numberOf, placeOf}
+use Rattle.chargefile.specs.Called.{Called}
 
 pub place-set : (s : List ℕ) (p : ℕ) → 0 < length s → set s 0 p ≡ placeIn s p
 unfolding placeIn
@@ -30,3 +34,17 @@ pub told-refused
     → (n ≡ numberFor b) × (t ≡ placesAfter b s)
 unfolding numberFor placesAfter
 told-refused a b n p s t e h u = (ap numberFor (sym h ∙ e), u ∙ ap (λ (c : Checked). placesAfter c s) (sym h ∙ e))
+
+-- a run's outcome, of either case, handed over
+pub called
+    : {b s t : List ℕ} {x y : List (List ℕ)} {w u p q : List ℕ} (o o' : Outcome)
+    → Settled b s t x y w u o
+    → o ≡ o'
+    → q ≡ placeIn p (placeOf o')
+    → Called b s t x y w u p q (numberOf o')
+called {p = p} o o' h e z =
+    record {
+      run = record { answer = refl; result = h .result; rows = h .rows; work = h .work; explained = h .explained };
+      number = ap numberOf (sym e ∙ h .answer);
+      places = z ∙ ap (λ (v : Outcome). placeIn p (placeOf v)) (sym e ∙ h .answer);
+    }

@@ -1,0 +1,89 @@
+use mathlib.Core.Path.{sym, _∙_}
+use native.Mathlib.Omega.{arith}
+use lib.ListN.{length-drop}
+use Rattle.wire.specs.WroteLaws.{then, same, wider}
+use Rattle.text.specs.Sections.{lent-rest}
+use Rattle.report.proofs.Reading.{report-none, report-some}
+use borrow.Author.Needs.{needs}
+use Rattle.report.proofs.report.Statement.{statement}
+use Rattle.report.proofs.report.Tie as tie
+
+job-line-requires : tie.Need-job-line-requires
+job-line-requires c κs = omega arith
+
+answer-lines-requires : tie.Need-answer-lines-requires
+answer-lines-requires c κs = omega arith
+
+log-lines-requires : tie.Need-log-lines-requires
+log-lines-requires c κs = omega arith
+
+u32-at-requires : tie.Need-u32-at-requires
+u32-at-requires c κs = omega arith
+
+cast-file : tie.Need-cast-file
+cast-file c = omega arith
+
+same-length : tie.Need-same-length
+same-length c = search needs
+
+returns : tie.Need-returns
+returns c =
+    let a = c .before .before .before .before .before .before .before .before .before .before .before .before .before .before .before .before .before .args in
+    let e = c .before .u32-at .ensures in
+    wider (omega arith)
+    (same (report-none (a .job .now) (a .result .now) (sym e ∙ c .if1 .taken))
+    (then (then (c .before .before .before .before .before .before .before .before .before .before .before .before .job-line .ensures) (c .before .before .before .before .before .before .before .before .answer-lines .ensures)) (c .before .before .before .before .log-lines .ensures)))
+
+sub-file-lines : tie.Need-sub-file-lines
+sub-file-lines c =
+    let a = c .before .before .before .before .before .before .before .before .before .before .before .before .before .before .before .before .before .before in
+    let f = c .before .before .u32-at in
+    let h = rw (← f .ensures) at (a .pre .1 .file (λ z. c .before .if1 .left (f .ensures ∙ z)) .header) in
+    omega (arith, length-drop (f .result) (a .args .result .now))
+
+part-file-lines-start : tie.Need-part-file-lines-start
+part-file-lines-start c =
+    let a = c .before .before .before .before .before .before .before .before .before .before .before .before .before .before .before .before .before .before in
+    let f = c .before .before .u32-at in
+    let h = rw (← f .ensures) at (a .pre .1 .file (λ z. c .before .if1 .left (f .ensures ∙ z)) .header) in
+    omega (arith, length-drop (f .result) (a .args .result .now))
+
+part-file-lines-end : tie.Need-part-file-lines-end
+part-file-lines-end c = omega arith
+
+file-lines-requires : tie.Need-file-lines-requires
+file-lines-requires c κs =
+    let a = c .before .before .before .before .before .before .before .before .before .before .before .before .before .before .before .before .before .before .before in
+    let f = c .before .before .before .u32-at in
+    let h = a .pre .1 .file (λ z. c .before .before .if1 .left (f .ensures ∙ z)) in
+    rw (lent-rest (a .args .result .now) (f .result)) (omega arith, rw (f .ensures) h)
+
+same-length-2 : tie.Need-same-length-2
+same-length-2 c = search needs
+
+returns-2 : tie.Need-returns-2
+returns-2 c =
+    let a = c .before .before .before .before .before .before .before .before .before .before .before .before .before .before .before .before .before .before .before .before .before .before .args in
+    let f = c .before .before .before .before .before .before .u32-at in
+    let w = rw (lent-rest (a .result .now) (f .result)) at (c .before .before .file-lines .ensures) in
+    wider (omega arith)
+    (same (report-some (a .job .now) (a .result .now) (f .result) (f .ensures) (c .before .before .before .before .before .if1 .left))
+    (then (then (then (c .before .before .before .before .before .before .before .before .before .before .before .before .before .before .before .before .before .job-line .ensures) (c .before .before .before .before .before .before .before .before .before .before .before .before .before .answer-lines .ensures)) (c .before .before .before .before .before .before .before .before .before .log-lines .ensures)) w))
+
+pub report-spec : {M : Type 1} → statement M
+report-spec =
+    tie.close
+    (tie.spec
+    job-line-requires
+    answer-lines-requires
+    log-lines-requires
+    u32-at-requires
+    cast-file
+    same-length
+    returns
+    sub-file-lines
+    part-file-lines-start
+    part-file-lines-end
+    file-lines-requires
+    same-length-2
+    returns-2)

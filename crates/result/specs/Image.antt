@@ -1,0 +1,64 @@
+-- What an operation's row of numbers tells is what its row in the machine tells.
+use mathlib.Core.Path.{_≡_, refl}
+use mathlib.Core.List.{_++_}
+use Prim.Native.Nat.{ℕ, _/_, _%_, _<_}
+use native.Mathlib.Omega.{arith}
+use Rattle.spec.specs.declared.Task.{Task}
+use Rattle.spec.specs.declared.Task.the-variants.{Verify, Release, Decide, WritePage, WriteOld, Unlock}
+use Rattle.spec.specs.declared.Part.{Part}
+use Rattle.spec.specs.declared.Part.the-variants.{WriteNew, WriteEntry, UnlockNew}
+use Rattle.spec.specs.declared.Stage.{Stage}
+use Rattle.spec.specs.declared.Stage.the-variants.{NotBegun, ReadPage, Reread, Lock, Held, Split, Done}
+use Rattle.spec.specs.Basics.{if}
+use Rattle.spec.specs.Bytes.{two, four}
+use Rattle.spec.specs.Split.{digit}
+use Rattle.spec.specs.State.{Row as State-Row}
+use Rattle.spec.specs.Result.{toldOf, answerBytes, underWay}
+use Rattle.turn.specs.declared.Row.{Row}
+use Rattle.turn.specs.Rows.{stageNumbers, taskNumbers, partNumbers, rowImage}
+use Rattle.result.specs.Marks.{markOf, markNumber, begunNumber}
+
+pub mark-image : (r : State-Row) (row : Row) → rowImage r ≡ row → markNumber (row .code) (row .moment) ≡ markOf r
+unfolding markOf rowImage
+mark-image r row e = rw (← e)
+
+pub answer-image
+    : (r : State-Row) (row : Row)
+    → rowImage r ≡ row
+    → r .code < 256
+    → two (row .code) ++ two (row .used) ++ four (row .charge) ≡ answerBytes (toldOf r)
+unfolding rowImage answerBytes toldOf two
+answer-image r row e h =
+    let low : r .code % 256 ≡ r .code = omega arith in
+    let high : r .code / 256 % 256 ≡ 0 = omega arith in
+    rw (← e, low, high)
+
+-- every stage but the first and the last is under way
+begun-task : (x : ℕ) (t : Task) → begunNumber (taskNumbers x t .stage) ≡ 1
+unfolding begunNumber if taskNumbers
+begun-task x Verify = refl
+begun-task x (Release y) = refl
+begun-task x Decide = refl
+begun-task x WritePage = refl
+begun-task x WriteOld = refl
+begun-task x Unlock = refl
+
+begun-part : (x b n : ℕ) (q : Part) → begunNumber (partNumbers x b n q .stage) ≡ 1
+unfolding begunNumber if partNumbers
+begun-part x b n (WriteNew i) = refl
+begun-part x b n (WriteEntry j) = refl
+begun-part x b n UnlockNew = refl
+
+begun-stage : (st : Stage) → begunNumber (stageNumbers st .stage) ≡ digit (underWay st)
+unfolding begunNumber if stageNumbers digit underWay
+begun-stage NotBegun = refl
+begun-stage (ReadPage x) = refl
+begun-stage (Reread x t) = refl
+begun-stage (Lock x) = refl
+begun-stage (Held x t) = begun-task x t
+begun-stage (Split x b n q) = begun-part x b n q
+begun-stage Done = refl
+
+pub begun-image : (r : State-Row) (row : Row) → rowImage r ≡ row → begunNumber (row .stage) ≡ digit (underWay (r .stage))
+unfolding rowImage
+begun-image r row e = rw (← e) (begun-stage (r .stage))

@@ -1,0 +1,234 @@
+// The result of a run, in the lent result buffer: "Header, 24 bytes", answers, log and charge file. The caller tells the operations' rows one
+// by one, and then has the rest written. No function here takes the table of rows.
+use turn::Row;
+ghost use mathlib.Core.Path.{_≡_};
+ghost use mathlib.Core.List.{_++_};
+ghost use Prim.Native.Nat.{ℕ, _+_, _*_, _^_, _≤_, _<_};
+ghost use lib.ListN.{length};
+ghost use Rattle.spec.specs.Bytes.{two, four};
+ghost use Rattle.spec.specs.File.{File};
+ghost use Rattle.spec.specs.Encode.{headerBytes, encodeFile};
+ghost use Rattle.spec.specs.Check.{workSize};
+ghost use Rattle.spec.specs.Result.{Result, resultOf, lineBytes, resultHeader};
+ghost use Rattle.spec.specs.State.{Row as State-Row, State};
+ghost use Rattle.wire.specs.Over.{over};
+ghost use Rattle.turn.specs.Rows.{rowImage};
+ghost use Rattle.result.specs.Marks.{markNumber, begunNumber, Tells};
+ghost use Rattle.result.specs.Lines.{line, withLine, LogWritten};
+ghost use Rattle.result.specs.Finish.{Heads, fileHeader, fileSize, FileShown, Ready, Finished};
+
+const VERSION: usize = 1;
+
+const ANSWERS: usize = 24;
+
+// Where the marks stand in the working memory: nobody asks for the turns of changes any more.
+const MARKS: usize = 1026;
+
+// ---- answers
+
+// "Answer, 8 bytes: code, zero byte, turns used without waiting (2), charge (4)": a code is less than 256.
+fn put_answer(result: &mut [u8], at: usize, row: Row)
+    requires { ⌜ at + 8 ≤ length (now result) ⌝ }
+    ensures { λ _. ⌜ now (result .exit) ≡ over (now (result .entry)) at (two (row .code) ++ two (row .used) ++ four (row .charge)) ⌝ }
+{
+    wire::put_u16(result, at, row.code as usize);
+    wire::put_u16(result, at + 2, row.used as usize);
+    wire::put_u32(result, at + 4, row.charge);
+}
+
+// An operation's mark: 0 where there is no answer yet, else its moment and 1.
+fn mark(row: Row) -> usize
+    ensures { λ r. ⌜ r ≡ markNumber (row .code) (row .moment) ⌝ }
+{
+    if row.code == 0 {
+        return 0;
+    }
+    row.moment as usize + 1
+}
+
+// 1 where the operation is begun but unfinished, by the number of its stage: 0 is not begun, 13 is done.
+fn begun(stage: u16) -> usize
+    ensures { λ r. ⌜ (r ≡ begunNumber stage) × (r ≤ 1) ⌝ }
+{
+    if stage == 0 {
+        return 0;
+    }
+    if stage == 13 {
+        return 0;
+    }
+    1
+}
+
+// Operation i is told: its answer in the result, and its mark in the working memory.
+pub fn tell(row: Row, i: usize, result: &mut [u8], work: &mut [u8]) -> usize
+    requires { ⌜ (i < 256) × (32 + 8 * i ≤ length (now result)) × (workSize ≤ length (now work)) ⌝ }
+    ensures { λ v. ⌜ (v ≤ 1) × ((r : State-Row) → rowImage r ≡ row → r .code < 256 → Tells r i (now (result .entry)) (now (result .exit)) (now (work .entry)) (now (work .exit)) v) ⌝ }
+{
+    put_answer(result, ANSWERS + 8 * i, row);
+    wire::put_u16(work, MARKS + 2 * i, mark(row));
+    begun(row.stage)
+}
+
+// ---- the log
+
+// "Log, 4 bytes a line: moment (a turn number from 0) and operation"
+fn put_line(result: &mut [u8], at: usize, moment: usize, op: usize)
+    requires { ⌜ at + 4 ≤ length (now result) ⌝ }
+    ensures { λ _. ⌜ now (result .exit) ≡ over (now (result .entry)) at (lineBytes (line moment op)) ⌝ }
+{
+    wire::put_u16(result, at, moment);
+    wire::put_u16(result, at + 2, op);
+}
+
+// One line more, in its place: from the last line down, those of later moments move up by a line.
+fn place_line(result: &mut [u8], at: usize, lines: usize, moment: usize, op: usize)
+    requires { ⌜ at + 4 * (lines + 1) ≤ length (now result) ⌝ }
+    ensures { λ _. ⌜ now (result .exit) ≡ withLine (now (result .entry)) at lines (line moment op) ⌝ }
+{
+    let mut j = lines;
+    while 0 < j {
+        let p = at + 4 * (j - 1);
+        let t = wire::u16_at(result, p);
+        if t <= moment {
+            put_line(result, p + 4, moment, op);
+            return;
+        }
+        let i = wire::u16_at(result, p + 2);
+        put_line(result, p + 4, t, i);
+        j -= 1;
+    }
+    put_line(result, at, moment, op);
+}
+
+// The log of the m operations, from place `at` on, and its number of lines. A turn that no operation has its moment on costs nothing.
+fn write_log(work: &[u8], m: usize, result: &mut [u8], at: usize) -> usize
+    requires { ⌜ (m ≤ 256) × (workSize ≤ length (now work)) × (at + 4 * m ≤ length (now result)) ⌝ }
+    ensures { λ r. ⌜ LogWritten (now (work .entry)) m (now (result .entry)) at (now (result .exit)) r ⌝ }
+{
+    let mut lines: usize = 0;
+    let mut i: usize = 0;
+    while i < m {
+        let mark = wire::u16_at(work, MARKS + 2 * i);
+        if mark == 0 {
+            i += 1;
+        } else {
+            place_line(result, at, lines, mark - 1, i);
+            lines += 1;
+            i += 1;
+        }
+    }
+    lines
+}
+
+// ---- header and charge file
+
+// Four numbers of 2 bytes.
+fn put_counts(result: &mut [u8], at: usize, a: usize, b: usize, c: usize, d: usize)
+    requires { ⌜ at + 8 ≤ length (now result) ⌝ }
+    ensures { λ _. ⌜ now (result .exit) ≡ over (now (result .entry)) at (two a ++ two b ++ two c ++ two d) ⌝ }
+{
+    wire::put_u16(result, at, a);
+    wire::put_u16(result, at + 2, b);
+    wire::put_u16(result, at + 4, c);
+    wire::put_u16(result, at + 6, d);
+}
+
+// Four numbers of 4 bytes.
+fn put_offsets(result: &mut [u8], at: usize, a: usize, b: usize, c: usize, d: usize)
+    requires { ⌜ (at + 16 ≤ length (now result)) × (a < 2 ^ 32) × (b < 2 ^ 32) × (c < 2 ^ 32) × (d < 2 ^ 32) ⌝ }
+    ensures { λ _. ⌜ now (result .exit) ≡ over (now (result .entry)) at (four a ++ four b ++ four c ++ four d) ⌝ }
+{
+    wire::put_u32(result, at, a as u32);
+    wire::put_u32(result, at + 4, b as u32);
+    wire::put_u32(result, at + 8, c as u32);
+    wire::put_u32(result, at + 12, d as u32);
+}
+
+// "Header, 24 bytes: version 1, m, log length L, operations begun but unfinished (2 bytes each); offsets of answers, log and charge file,
+// .., and the total (4 each)"
+fn write_header(result: &mut [u8], m: usize, lines: usize, under: usize, file: usize, total: usize)
+    requires { ⌜ (24 ≤ length (now result)) × (m ≤ 256) × (file < 2 ^ 32) × (total < 2 ^ 32) ⌝ }
+    ensures { λ _. ⌜ ((r : Result) (n : ℕ) → Heads r n m lines under file total → now (result .exit) ≡ over (now (result .entry)) 0 (resultHeader r n)) ⌝ }
+{
+    put_counts(result, 0, VERSION, m, lines, under);
+    put_offsets(result, 8, ANSWERS, ANSWERS + 8 * m, file, total);
+}
+
+// the number of directory entries
+fn entries(depth: usize) -> usize
+    requires { ⌜ depth ≤ 8 ⌝ }
+    ensures { λ r. ⌜ (r ≡ 2 ^ depth) × (r ≤ 256) ⌝ }
+{
+    1 << depth
+}
+
+// the length of the charge file
+fn file_length(depth: usize, capacity: usize, pages: usize) -> usize
+    requires { ⌜ (depth ≤ 8) × (capacity ≤ 8) × (pages ≤ 256) ⌝ }
+    ensures { λ r. ⌜ (r ≡ fileSize depth capacity pages) × (r ≤ 17952) ⌝ }
+{
+    32 + 2 * entries(depth) + (4 + 8 * capacity) * pages
+}
+
+// "A charge file is a job with no operations and no turns": its header. Depth and capacity have a byte each.
+fn put_file_header(
+    result: &mut [u8],
+    at: usize,
+    depth: usize,
+    capacity: usize,
+    pages: usize,
+    used: usize,
+)
+    requires { ⌜ (at + 32 ≤ length (now result)) × (depth ≤ 8) × (capacity ≤ 8) × (pages ≤ 256) ⌝ }
+    ensures { λ _. ⌜ now (result .exit) ≡ over (now (result .entry)) at (headerBytes (fileHeader depth capacity pages used)) ⌝ }
+{
+    let table = 32 + 2 * entries(depth);
+    let end = file_length(depth, capacity, pages);
+    put_counts(result, at, VERSION, depth + 256 * capacity, pages, used);
+    wire::clear(result, at + 8, 4);
+    put_offsets(result, at + 12, 32, table, end, end);
+    wire::put_u32(result, at + 28, end as u32);
+}
+
+// The charge file that the working memory shows.
+fn write_file(
+    result: &mut [u8],
+    at: usize,
+    depth: usize,
+    capacity: usize,
+    pages: usize,
+    work: &[u8],
+)
+    requires { ⌜ (workSize ≤ length (now work)) × (depth ≤ 8) × (capacity ≤ 8) × (pages ≤ 256) × (at + fileSize depth capacity pages ≤ length (now result)) ⌝ }
+    ensures { λ _. ⌜ ((f : File) → FileShown f depth capacity pages (now (work .entry)) → now (result .exit) ≡ over (now (result .entry)) at (encodeFile f)) ⌝ }
+{
+    put_file_header(result, at, depth, capacity, pages, memory::used(work));
+    memory::save_file(work, entries(depth), capacity, pages, result, at + 32);
+}
+
+// The log, the header and, where no operation is begun but unfinished, the charge file; and the length of the result.
+pub fn finish(
+    result: &mut [u8],
+    work: &[u8],
+    depth: usize,
+    capacity: usize,
+    pages: usize,
+    m: usize,
+    under: usize,
+) -> usize
+    requires { ⌜ (workSize ≤ length (now work)) × (depth ≤ 8) × (capacity ≤ 8) × (pages ≤ 256) × (m ≤ 256) × (24 + 12 * m + fileSize depth capacity pages ≤ length (now result)) ⌝ }
+    ensures { λ v. ⌜ ((s : State) → Ready s depth capacity pages m under (now (result .entry)) (now (work .entry)) → Finished (resultOf s) (now (result .entry)) (now (result .exit)) v) ⌝ }
+{
+    let at = ANSWERS + 8 * m;
+    let lines = write_log(work, m, result, at);
+    let end = at + 4 * lines;
+    if under != 0 {
+        // "there is no charge file and its offset is 0"
+        write_header(result, m, lines, under, 0, end);
+        return end;
+    }
+    let total = end + file_length(depth, capacity, pages);
+    write_file(result, end, depth, capacity, pages, work);
+    write_header(result, m, lines, under, end, total);
+    total
+}

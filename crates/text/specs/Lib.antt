@@ -1,0 +1,3 @@
+-- laws for callers' proofs
+pub mod Chain
+pub mod Sections

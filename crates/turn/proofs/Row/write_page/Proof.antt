@@ -1,0 +1,81 @@
+use Rattle.turn.specs.Steps.{memWritten}
+use borrow.Author.Needs.{needs}
+use Rattle.turn.proofs.Row.write_page.Statement.{statement}
+use Rattle.turn.proofs.Row.write_page.Tie as tie
+
+enum-told : tie.Need-enum-told
+enum-told c = search needs
+
+moved-requires : tie.Need-moved-requires
+moved-requires c κs = search needs
+
+enum-told-2 : tie.Need-enum-told-2
+enum-told-2 c = search needs
+
+rec-of-requires : tie.Need-rec-of-requires
+rec-of-requires c κs = search needs
+
+append-to-requires : tie.Need-append-to-requires
+append-to-requires c κs =
+    let a = c .before .before .before .before .before in
+    let h = rw (c .before .before .enum-told2 .given .1) at (a .pre .2) in
+    (record { size = a .pre .0 .size; capacity = a .pre .0 .capacity; number = h .0 }, h .1)
+
+settled-requires : tie.Need-settled-requires
+settled-requires c κs = search needs
+
+enum-told-3 : tie.Need-enum-told-3
+enum-told-3 c = search needs
+
+charge-in-requires : tie.Need-charge-in-requires
+charge-in-requires c κs =
+    let a = c .before .before .before .before in
+    let h = rw (c .before .enum-told3 .given .1) at (a .pre .2) in
+    (a .pre .0, h)
+
+remove-from-requires : tie.Need-remove-from-requires
+remove-from-requires c κs =
+    let a = c .before .before .before .before .before .before in
+    let h = rw (c .before .before .before .enum-told3 .given .1) at (a .pre .2) in
+    (record { size = a .pre .0 .size; capacity = a .pre .0 .capacity; number = h .number }, h .count)
+
+settled-requires-2 : tie.Need-settled-requires-2
+settled-requires-2 c κs = search needs
+
+returns : tie.Need-returns
+unfolding memWritten
+returns c = rw (c .before .enum-told .given .1, c .moved .ensures)
+
+same-length : tie.Need-same-length
+same-length c = search needs
+
+returns-2 : tie.Need-returns-2
+unfolding memWritten
+returns-2 c = rw (c .before .before .before .before .before .before .enum-told2 .given .1, c .settled .ensures, c .before .before .before .append-to .ensures, c .before .before .before .before .rec-of .ensures)
+
+same-length-2 : tie.Need-same-length-2
+same-length-2 c = search needs
+
+returns-3 : tie.Need-returns-3
+unfolding memWritten
+returns-3 c = rw (c .before .before .before .before .before .before .before .enum-told3 .given .1, c .settled2 .ensures, c .before .before .before .remove-from .ensures, c .before .before .before .before .before .charge-in .ensures)
+
+pub write-page-spec : {M : Type 1} → statement M
+write-page-spec =
+    tie.close
+    (tie.spec
+    enum-told
+    moved-requires
+    enum-told-2
+    rec-of-requires
+    append-to-requires
+    settled-requires
+    enum-told-3
+    charge-in-requires
+    remove-from-requires
+    settled-requires-2
+    returns
+    same-length
+    returns-2
+    same-length-2
+    returns-3)

@@ -1,0 +1,228 @@
+// The turns of an insert or a delete that holds one page.
+use crate::Row;
+use crate::codes;
+use crate::entries;
+use crate::search;
+use memory::Shape;
+use spec::Found;
+use spec::Kind;
+use spec::Op;
+use spec::Part;
+use spec::Rec;
+use spec::Stage;
+use spec::Task;
+ghost use mathlib.Core.Path.{_≡_};
+ghost use Prim.Native.Nat.{_+_, _≤_, _<_};
+ghost use lib.Dec.{eqb};
+ghost use lib.ListN.{length};
+ghost use Rattle.spec.specs.declared.Stage.the-variants.{Held};
+ghost use Rattle.spec.specs.declared.Task.the-variants.{Unlock};
+ghost use Rattle.spec.specs.Check.{workSize};
+ghost use Rattle.spec.specs.File.{findIn};
+ghost use Rattle.spec.specs.Split.{splitCount};
+ghost use Rattle.spec.specs.Turn.{recOf, chargeIn};
+ghost use Rattle.memory.specs.Memory.{withLocks, withUsed, pageIn};
+ghost use Rattle.turn.specs.Rows.{moved, answered};
+ghost use Rattle.turn.specs.Steps.{out, home, goes, memLock, memVerified, memTaken, memFull, memPlaced, memDecided, memWritten, memOld, memHeld};
+ghost use Rattle.turn.specs.Safe.{Ready, Readable, Planned, Writable, SafeHeld};
+
+// The record that an insert stores.
+pub fn rec_of(op: Op) -> Rec
+    ensures { λ r. ⌜ r ≡ recOf op ⌝ }
+{
+    Rec {
+        call: op.call,
+        charge: op.charge,
+    }
+}
+
+// The charge that page x has of the call.
+fn charge_in(shape: Shape, op: Op, x: u16, work: &[u8]) -> u32
+    requires { ⌜ Ready shape (now work) × Readable shape (now work) x ⌝ }
+    ensures { λ r. ⌜ r ≡ chargeIn (findIn (pageIn (shape .capacity) (now (work .entry)) x .records) (op .call)) ⌝ }
+{
+    let found = memory::find_in(work, shape.capacity, x, op.call);
+    match found {
+        Found::Charge(v) => v,
+        Found::Missing => 0,
+    }
+}
+
+// The call stays in page x, which is split: its own entry goes to none of the new pages.
+fn stays(shape: Shape, op: Op, x: u16, work: &[u8]) -> bool
+    requires { ⌜ Ready shape (now work) × Planned shape op (now work) x ⌝ }
+    ensures { λ r. ⌜ r ≡ eqb (goes shape op (now (work .entry)) x (splitCount (pageIn (shape .capacity) (now (work .entry)) x) (op .call)) (home shape op)) 0 ⌝ }
+{
+    let n = memory::split_count_in(work, shape.capacity, x, op.call);
+    let d = memory::page_depth(work, shape.capacity, x);
+    entries::last_one(shape.depth, op.call, entries::home(shape, op), n, d) == 0
+}
+
+// The splits for an insert into page x take n new pages, when u are in use.
+fn take_pages(u: u16, n: u16, work: &mut [u8])
+    requires { ⌜ (workSize ≤ length (now work)) × (u + n ≤ 256) ⌝ }
+    ensures { λ _. ⌜ now (work .exit) ≡ withUsed (withLocks (now (work .entry)) (u + 1) n 1) (u + n) ⌝ }
+{
+    memory::set_locks(work, u + 1, n, 1);
+    memory::set_used(work, (u + n) as usize);
+}
+
+impl Row {
+    // "(b) lock that page; if it is locked, the turn only waits"
+    pub(crate) fn lock(self, x: u16, work: &mut [u8]) -> Row
+        requires { ⌜ (workSize ≤ length (now work)) × (self .used < 65535) × (x ≤ 256) ⌝ }
+        ensures { λ r. ⌜ out r (now (work .exit)) ≡ memLock self (now (work .entry)) x ⌝ }
+    {
+        if memory::is_locked(work, x) {
+            return self;
+        }
+        memory::set_locks(work, x, 1, 1);
+        self.moved(Stage::Held(x, Task::Verify))
+    }
+
+    // The locks of n pages, from x on, are given back.
+    pub(crate) fn unlock(self, x: u16, n: u16, next: Stage, work: &mut [u8]) -> Row
+        requires { ⌜ (workSize ≤ length (now work)) × (self .used < 65535) × (x + n ≤ 257) ⌝ }
+        ensures { λ r. ⌜ out r (now (work .exit)) ≡ out (moved self next) (withLocks (now (work .entry)) x n 0) ⌝ }
+    {
+        memory::set_locks(work, x, n, 0);
+        self.moved(next)
+    }
+
+    // "(c) read the entry again. If it names another page, the next turn unlocks the page held, and (b) follows with the page just read"
+    fn verify(self, shape: Shape, op: Op, x: u16, work: &[u8]) -> Row
+        requires { ⌜ Ready shape (now work) × (self .used < 65535) ⌝ }
+        ensures { λ r. ⌜ out r (now (work .entry)) ≡ memVerified shape op self (now (work .entry)) x ⌝ }
+    {
+        let y = search::named(shape, op, work);
+        if y == x {
+            self.moved(Stage::Held(x, Task::Decide))
+        } else {
+            self.moved(Stage::Held(x, Task::Release(y)))
+        }
+    }
+
+    // The operation has its answer, and the next turn unlocks its page.
+    fn settled(self, x: u16, code: u16, charge: u32, moment: u16) -> Row
+        requires { ⌜ self .used < 65535 ⌝ }
+        ensures { λ r. ⌜ r ≡ answered (moved self (Held x Unlock)) code charge moment ⌝ }
+    {
+        self.moved(Stage::Held(x, Task::Unlock))
+            .answered(code, charge, moment)
+    }
+
+    // "turn (d) also takes and locks pages U+1 to U+n in the order of the splits, and from then on U is n more"
+    fn taken(self, x: u16, u: u16, n: u16, work: &mut [u8]) -> Row
+        requires { ⌜ (workSize ≤ length (now work)) × (self .used < 65535) × (u + n ≤ 256) ⌝ }
+        ensures { λ r. ⌜ out r (now (work .exit)) ≡ memTaken self (now (work .entry)) x u n ⌝ }
+    {
+        take_pages(u, n, work);
+        self.moved(Stage::Split(x, u, n, Part::WriteNew(1)))
+    }
+
+    // "Insert into a full page": ""No depth" exactly when all c records share their first g bits with the call; otherwise "no page" exactly
+    // when U + n is above P".
+    fn fill(self, shape: Shape, op: Op, t: u16, x: u16, work: &mut [u8]) -> Row
+        requires { ⌜ Ready shape (now work) × (self .used < 65535) × Readable shape (now work) x ⌝ }
+        ensures { λ r. ⌜ out r (now (work .exit)) ≡ memFull shape op t self (now (work .entry)) x (pageIn (shape .capacity) (now (work .entry)) x) ⌝ }
+    {
+        if shape.depth <= memory::least_shared_in(work, shape.capacity, x, op.call) {
+            return self.settled(x, codes::NO_DEPTH, 0, t);
+        }
+        let n = memory::split_count_in(work, shape.capacity, x, op.call);
+        let u = memory::used(work);
+        if shape.pages < u + n {
+            return self.settled(x, codes::NO_PAGE, 0, t);
+        }
+        self.taken(x, u as u16, n as u16, work)
+    }
+
+    // An insert whose call is not in page x.
+    fn place(self, shape: Shape, op: Op, t: u16, x: u16, work: &mut [u8]) -> Row
+        requires { ⌜ Ready shape (now work) × (self .used < 65535) × Readable shape (now work) x ⌝ }
+        ensures { λ r. ⌜ out r (now (work .exit)) ≡ memPlaced shape op t self (now (work .entry)) x (pageIn (shape .capacity) (now (work .entry)) x) ⌝ }
+    {
+        if memory::page_count(work, shape.capacity, x) < shape.capacity {
+            self.moved(Stage::Held(x, Task::WritePage))
+        } else {
+            self.fill(shape, op, t, x, work)
+        }
+    }
+
+    // "(d) read the page and decide". (No search comes here, nor to `write_page`.)
+    fn decide(self, shape: Shape, op: Op, t: u16, x: u16, work: &mut [u8]) -> Row
+        requires { ⌜ Ready shape (now work) × (self .used < 65535) × Readable shape (now work) x ⌝ }
+        ensures { λ r. ⌜ out r (now (work .exit)) ≡ memDecided shape op t self (now (work .entry)) x (op .kind) (findIn (pageIn (shape .capacity) (now (work .entry)) x .records) (op .call)) ⌝ }
+    {
+        let found = memory::find_in(work, shape.capacity, x, op.call);
+        let k = op.kind;
+        match k {
+            Kind::Search => self.moved(Stage::Held(x, Task::Unlock)),
+            Kind::Insert => match found {
+                Found::Charge(v) => self.settled(x, codes::ALREADY_THERE, v, t),
+                Found::Missing => self.place(shape, op, t, x, work),
+            },
+            Kind::Delete => match found {
+                Found::Charge(_) => self.moved(Stage::Held(x, Task::WritePage)),
+                Found::Missing => self.settled(x, codes::ABSENT, 0, t),
+            },
+        }
+    }
+
+    // "a turn writes the page"
+    fn write_page(self, shape: Shape, op: Op, t: u16, x: u16, work: &mut [u8]) -> Row
+        requires { ⌜ Ready shape (now work) × (self .used < 65535) × Writable shape (now work) x (op .kind) ⌝ }
+        ensures { λ r. ⌜ out r (now (work .exit)) ≡ memWritten shape op t self (now (work .entry)) x (op .kind) (pageIn (shape .capacity) (now (work .entry)) x) ⌝ }
+    {
+        let k = op.kind;
+        match k {
+            Kind::Search => self.moved(Stage::Held(x, Task::Unlock)),
+            Kind::Insert => {
+                memory::append_to(work, shape.capacity, x, rec_of(op));
+                self.settled(x, codes::STORED, op.charge, t)
+            }
+            Kind::Delete => {
+                let charge = charge_in(shape, op, x, work);
+                memory::remove_from(work, shape.capacity, x, op.call);
+                self.settled(x, codes::DELETED, charge, t)
+            }
+        }
+    }
+
+    // "one writing the old page": the call's moment, where it is in the old page.
+    fn write_old(self, shape: Shape, op: Op, t: u16, x: u16, work: &mut [u8]) -> Row
+        requires { ⌜ Ready shape (now work) × (self .used < 65535) × Planned shape op (now work) x ⌝ }
+        ensures { λ r. ⌜ out r (now (work .exit)) ≡ memOld shape op t self (now (work .entry)) x ⌝ }
+    {
+        let own = stays(shape, op, x, work);
+        memory::write_old_page(work, shape.capacity, x, rec_of(op));
+        if own {
+            self.settled(x, codes::STORED, op.charge, t)
+        } else {
+            self.moved(Stage::Held(x, Task::Unlock))
+        }
+    }
+
+    // The turn of an operation that holds page x.
+    pub(crate) fn held(
+        self,
+        shape: Shape,
+        op: Op,
+        t: u16,
+        x: u16,
+        task: Task,
+        work: &mut [u8],
+    ) -> Row
+        requires { ⌜ Ready shape (now work) × (self .used < 65535) × SafeHeld shape op (now work) x task ⌝ }
+        ensures { λ r. ⌜ out r (now (work .exit)) ≡ memHeld shape op t self (now (work .entry)) x task ⌝ }
+    {
+        match task {
+            Task::Verify => self.verify(shape, op, x, work),
+            Task::Release(y) => self.unlock(x, 1, Stage::Lock(y), work),
+            Task::Decide => self.decide(shape, op, t, x, work),
+            Task::WritePage => self.write_page(shape, op, t, x, work),
+            Task::WriteOld => self.write_old(shape, op, t, x, work),
+            Task::Unlock => self.unlock(x, 1, Stage::Done, work),
+        }
+    }
+}

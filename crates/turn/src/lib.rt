@@ -1,0 +1,47 @@
+// One turn of one operation, on the working memory.
+mod codes;
+mod entries;
+mod held;
+mod rows;
+mod search;
+mod split;
+
+use memory::Shape;
+use spec::Op;
+use spec::Stage;
+ghost use mathlib.Core.Path.{_≡_};
+ghost use Rattle.turn.specs.Steps.{out, memStep};
+ghost use Rattle.turn.specs.Safe.{Safe};
+
+// An operation's row: its stage in numbers, its turns used, and its answer. Each number is below 16,385 but the charge, which has 32 bits.
+pub struct Row {
+    pub charge: u32,
+    pub stage: u16,
+    pub page: u16,
+    pub base: u16,
+    pub count: u16,
+    pub next: u16,
+    pub used: u16,
+    pub code: u16,
+    pub moment: u16,
+}
+
+impl Row {
+    // "One turn is one step of the operation it names": the operation is handed in and comes back moved on, on turn t.
+    pub fn step(mut self, shape: Shape, op: Op, t: u16, work: &mut [u8]) -> Row
+        requires { ⌜ Safe shape op self (now work) ⌝ }
+        ensures { λ r. ⌜ out r (now (work .exit)) ≡ memStep shape op t self (now (work .entry)) ⌝ }
+    {
+        let st = rows::stage_of(self);
+        match st {
+            Stage::NotBegun => self = self.begin(shape, op, work),
+            Stage::ReadPage(x) => self = self.read_page(shape, op, t, x, work),
+            Stage::Reread(x, u) => self = self.reread(shape, op, x, u, work),
+            Stage::Lock(x) => self = self.lock(x, work),
+            Stage::Held(x, task) => self = self.held(shape, op, t, x, task, work),
+            Stage::Split(x, b, n, part) => self = self.split(shape, op, t, x, b, n, part, work),
+            Stage::Done => {}
+        }
+        self
+    }
+}

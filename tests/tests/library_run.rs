@@ -1,0 +1,141 @@
+//! The library's run against the tests' own implementation: result bytes for result bytes, and every lent buffer afterwards.
+
+mod linked;
+
+use chargefile_tests::check::{result_room, WORKING_MEMORY};
+use chargefile_tests::damage::{fault, scribble};
+use chargefile_tests::job::Counts;
+use chargefile_tests::make;
+use chargefile_tests::random::Random;
+use chargefile_tests::seeds::{each_seed, few_seeds};
+use chargefile_tests::{run, Outcome};
+use linked::{Lent, NO_ROW};
+
+const JOBS: u64 = 200_000;
+const DAMAGED: u64 = 20_000;
+
+/// Both come to the same, and what is lent is left as the document says.
+fn agree(job: &[u8], result: usize, rows: usize, memory: usize) -> Outcome {
+    let wanted = run(job, result, rows, memory);
+    let before = Lent::new(result, rows, memory);
+    let mut after = before.clone();
+    let told = linked::run(job, &mut after);
+    match &wanted {
+        Outcome::Refused { number, place } => {
+            assert_eq!(
+                told,
+                Outcome::Refused {
+                    number: *number,
+                    place: *place
+                }
+            );
+            assert!(
+                after == before,
+                "a refused job has written to a lent buffer"
+            );
+        }
+        Outcome::Done { result } => {
+            let Outcome::Done { result: told } = told else {
+                panic!("refused: {told:?}");
+            };
+            assert_eq!(told, *result);
+            let end = result.len();
+            assert!(
+                after.result[end..] == before.result[end..],
+                "bytes past the total"
+            );
+            assert!(
+                after.rows.iter().all(|row| *row == NO_ROW),
+                "rows after a run"
+            );
+            assert!(
+                after.memory.iter().all(|byte| *byte == 0),
+                "memory after a run"
+            );
+        }
+    }
+    wanted
+}
+
+/// The least that a job's run may be lent.
+fn least(job: &[u8]) -> (usize, usize, usize) {
+    let counts = Counts::read(job);
+    (result_room(&counts), counts.operations, WORKING_MEMORY)
+}
+
+#[test]
+fn random_jobs() {
+    let mut files = 0;
+    let whole = each_seed(JOBS, |seed| {
+        let random = &mut Random::new(seed, "library run");
+        let job = if seed % 16 == 0 {
+            make::job(random)
+        } else {
+            make::small_job(random)
+        };
+        let bytes = job.to_bytes();
+        let (result, rows, memory) = least(&bytes);
+        let more = random.below(3) * random.below(300);
+        let outcome = agree(
+            &bytes,
+            result + more,
+            rows + random.below(3) * more,
+            memory + more,
+        );
+        let Outcome::Done { result } = outcome else {
+            panic!("a job that meets no row is run");
+        };
+        files += usize::from(result[16..20] != [0; 4]);
+    });
+    if whole {
+        assert!(files > 50_000, "results with a charge file: {files}");
+    }
+}
+
+#[test]
+fn damaged_jobs() {
+    let mut refused = [0usize; 12];
+    let whole = each_seed(DAMAGED, |seed| {
+        let random = &mut Random::new(seed, "library damage");
+        let job = make::small_job(random);
+        let bytes = job.to_bytes();
+        let (result, rows, memory) = least(&bytes);
+        for number in 1..=10 {
+            let damaged = match fault(random, &job, number) {
+                Some(fault) if random.percent(60) => fault.apply(&bytes),
+                _ => scribble(random, &bytes),
+            };
+            let lent = if random.percent(20) {
+                (0, 0, 0)
+            } else {
+                (result, rows, memory)
+            };
+            if let Outcome::Refused { number, .. } = agree(&damaged, lent.0, lent.1, lent.2) {
+                refused[number as usize] += 1;
+            }
+        }
+    });
+    if whole {
+        println!("refusals by number: {refused:?}");
+        assert!(refused[1..].iter().all(|count| *count > 0), "{refused:?}");
+    }
+}
+
+#[test]
+fn too_little_lent() {
+    few_seeds(2_000, |seed| {
+        let random = &mut Random::new(seed, "library output");
+        let bytes = make::small_job(random).to_bytes();
+        let (result, rows, memory) = least(&bytes);
+        let refused = |place| Outcome::Refused { number: 11, place };
+        assert_eq!(agree(&bytes, result - 1, 0, 0), refused(0));
+        assert_eq!(agree(&bytes, result, rows, memory - 1), refused(2));
+        if rows > 0 {
+            assert_eq!(agree(&bytes, result, rows - 1, 0), refused(1));
+        }
+        assert!(matches!(
+            agree(&bytes, result, rows, memory),
+            Outcome::Done { .. }
+        ));
+    });
+}
