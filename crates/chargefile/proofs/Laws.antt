@@ -44,7 +44,7 @@ pub called
     → Called b s t x y w u p q (numberOf o')
 called {p = p} o o' h e z =
     record {
-      run = record { answer = refl; result = h .result; rows = h .rows; work = h .work; explained = h .explained };
+      run = record { answer = refl; result = h .result; rows = h .rows; work = h .work; fixed = h .fixed; explained = h .explained };
       number = ap numberOf (sym e ∙ h .answer);
       places = z ∙ ap (λ (v : Outcome). placeIn p (placeOf v)) (sym e ∙ h .answer);
     }

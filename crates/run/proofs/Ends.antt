@@ -1,18 +1,16 @@
 -- What a call comes to: refused by the job's own bytes, refused because too little is lent, or run.
-use mathlib.Core.Path.{_≡_, refl, sym, ap, _∙_}
-use mathlib.Core.List.{List, _++_}
+use mathlib.Core.Path.{_≡_, refl, _∙_}
+use mathlib.Core.List.{List}
 use mathlib.Core.Option.{Option, none, some}
-use Prim.Native.Nat.{ℕ, zero, suc, _+_, _≤_, _<_}
+use Prim.Native.Nat.{ℕ, _+_, _≤_}
 use native.Mathlib.Omega.{arith}
 use lib.ListN.{length}
-use Rattle.spec.specs.declared.Spot.{Spot}
 use Rattle.spec.specs.declared.Spot.the-variants.{At, Nowhere}
-use Rattle.spec.specs.declared.Outcome.{Outcome}
 use Rattle.spec.specs.declared.Outcome.the-variants.{Ran as RanFor, Refused}
 use Rattle.spec.specs.Basics.{orElse}
 use Rattle.spec.specs.Decode.{headerOf, jobOf}
-use Rattle.spec.specs.Result.{result, encodeResult}
-use Rattle.spec.specs.Check.{Lent, Fault, smallOutput, numbered, jobFault, firstFault}
+use Rattle.spec.specs.Result.{result}
+use Rattle.spec.specs.Check.{Fault, smallOutput, numbered, jobFault, firstFault}
 use Rattle.spec.specs.Cases.{spotOf}
 use Rattle.spec.specs.Outcome.{resultBytes, outcomeBy, outcome, afterRun, bufferAfter, rowsAfter, workAfter}
 use Rattle.laws.specs.Codec.Tools.{failed, among-none, among-end}
@@ -22,6 +20,7 @@ use Rattle.wire.specs.OverLaws.{over-parts}
 use Rattle.header.specs.declared.Header.{Header}
 use Rattle.header.specs.Counts.{countsOf}
 use Rattle.result.specs.Finish.{Finished}
+use Rattle.run.specs.Table.{zero-row}
 use Rattle.run.specs.Call.{lent, Enough, Ran, Settled}
 
 -- what the place of row 11 tells
@@ -40,7 +39,7 @@ module _ (b s : List ℕ) (x : List (List ℕ)) (w : List ℕ) where
   refused-by : (f : Fault) → firstFault (lent s x w) b ≡ some f → Settled b s s x x w w (Refused (f .number) (f .place))
   unfolding outcome outcomeBy bufferAfter rowsAfter workAfter afterRun
   refused-by f e =
-      record { answer = rw e; result = rw e; rows = rw e; work = rw e; explained = demand3 b }
+      record { answer = rw e; result = rw e; rows = rw e; work = rw e; fixed = zero-row; explained = demand3 b }
 
   pub refused-job : (n p : ℕ) → jobFault b ≡ some (record { number = n; place = p }) → Settled b s s x x w w (Refused n p)
   unfolding firstFault orElse
@@ -70,6 +69,7 @@ module _ (b s : List ℕ) (x : List (List ℕ)) (w : List ℕ) where
         result = rw (e, f) (r .result ∙ rw z at (over-parts (resultBytes b) s 0 (omega (arith, r .total, r .fits))));
         rows = rw (e, f) (r .rows);
         work = rw (e, f) (r .work);
+        fixed = zero-row;
         explained = demand3 b;
       }
 

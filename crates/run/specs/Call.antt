@@ -6,13 +6,15 @@ use Prim.Native.Nat.{ℕ, _≤_}
 use lib.ListN.{length, replicate}
 use Rattle.spec.specs.declared.Outcome.{Outcome}
 use Rattle.spec.specs.Decode.{jobOf}
+use Rattle.spec.specs.State.{blank}
 use Rattle.spec.specs.Check.{Lent, workSize, resultSize, jobFault}
 use Rattle.spec.specs.Claims.{Explained}
 use Rattle.spec.specs.Outcome.{resultBytes, outcome, bufferAfter, rowsAfter, workAfter}
 use Rattle.wire.specs.Over.{over}
 use Rattle.header.specs.declared.Header.{Header}
 use Rattle.header.specs.Counts.{countsOf}
-use Rattle.run.specs.Table.{zeroRow}
+use Rattle.turn.specs.Rows.{rowImage}
+use Rattle.run.specs.Table.{rowFrom, zeroRow}
 
 -- the lengths of what is lent
 abbrev pub lent : List ℕ → List (List ℕ) → List ℕ → Lent
@@ -39,4 +41,6 @@ pub record Settled (b s t : List ℕ) (x y : List (List ℕ)) (w u : List ℕ) (
   pub result : t ≡ bufferAfter (lent s x w) b s
   pub rows : y ≡ rowsAfter zeroRow (lent s x w) b x
   pub work : u ≡ workAfter (lent s x w) b w
+  -- the rows' fixed value "stands for an operation not begun"
+  pub fixed : rowFrom zeroRow ≡ rowImage blank
   pub explained : jobFault b ≡ none → Explained (jobOf b)

@@ -1,5 +1,5 @@
 -- The lent table, ten numbers of 16 bits a row: what a row of numbers says, and what a table and a memory show of a run.
-use mathlib.Core.Path.{_≡_}
+use mathlib.Core.Path.{_≡_, sym}
 use mathlib.Core.List.{List, [], _∷_}
 use mathlib.Core.Option.{none}
 use Prim.Native.Nat.{ℕ, _+_, _*_, _/_, _%_, _≤_, _<_}
@@ -7,6 +7,7 @@ use lib.ListN.{length, getD, set, replicate}
 use Rattle.spec.specs.declared.Op.{Op}
 use Rattle.spec.specs.Bytes.{AreBytes}
 use Rattle.spec.specs.Decode.{headerOf, jobOf}
+use Rattle.spec.specs.State.{blank}
 use Rattle.spec.specs.Run.{rowOf}
 use Rattle.spec.specs.Check.{jobFault}
 use Rattle.spec.specs.Claims.{stateAt}
@@ -17,6 +18,7 @@ use Rattle.turn.specs.declared.Row.{Row}
 use Rattle.turn.specs.Rows.{rowImage}
 use Rattle.turn.specs.Steps.{Out, memStep}
 use Rattle.turn.specs.Shown.{Shown}
+use Rattle.turn.specs.RowBack.{blank-row}
 
 -- A row of the table: the charge's low and high half, stage, page, base, count, next, used, code, moment
 unfoldable pub rowFrom : List ℕ → Row
@@ -50,6 +52,10 @@ numbersOf r =
 -- "one fixed value, the same for every job, that stands for an operation not begun"
 abbrev pub zeroRow : List ℕ
 zeroRow = replicate 10 0
+
+pub zero-row : rowFrom zeroRow ≡ rowImage blank
+unfolding rowFrom
+zero-row = sym blank-row
 
 -- a table and a memory; and what one turn makes of them, of operation op, which has row i, on turn t
 pub record Both : Type 0 where

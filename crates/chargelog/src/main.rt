@@ -1,0 +1,62 @@
+// Reads a job from standard input, runs it, and prints what the document says.
+use print::Printed;
+ghost use Prim.Native.Nat.{_≤_};
+ghost use lib.ListN.{length};
+ghost use Rattle.chargelog.specs.Input.{Within};
+
+// What standard input held: this many bytes; or a read failed.
+enum Input {
+    Bytes(usize),
+    Failed,
+}
+
+// Reads until the buffer is full or the input ends.
+fn read_job(job: &mut [u8]) -> Input
+    ensures { λ r. ⌜ Within (now (job .exit)) r ⌝ }
+{
+    let mut n: usize = 0;
+    while n < job.len() {
+        let got = libc::read(0, &mut job[n..]);
+        if got < 0 {
+            return Input::Failed;
+        }
+        let more = io::count(got, &job[n..]);
+        if more == 0 {
+            return Input::Bytes(n);
+        }
+        n += more;
+    }
+    Input::Bytes(n)
+}
+
+// What a run is lent is enough for every job, so that refusal 11 never comes.
+fn show(job: &[u8]) {
+    let mut result = [0u8; 21048];
+    let mut rows = [[0u16; 10]; 256];
+    let mut work = [0u8; 24576];
+    let mut text = [0u8; 85089];
+    let p = print::print(job, &mut result, &mut rows, &mut work, &mut text);
+    match p {
+        Printed::Text(n) => {
+            if !io::write_all(1, &text[..n]) {
+                io::write_all(2, b"chargelog: standard output cannot be written\n");
+            }
+        }
+        Printed::NoRoom => {
+            io::write_all(2, b"chargelog: no room for the text\n");
+        }
+    }
+}
+
+// No job is longer than 53,280 bytes. One byte more already decides every refusal: the length is then not the total (refusal 4, place 28),
+// unless a lower row holds of the header, whatever follows.
+fn main() {
+    let mut job = [0u8; 53281];
+    let i = read_job(&mut job);
+    match i {
+        Input::Bytes(n) => show(&job[..n]),
+        Input::Failed => {
+            io::write_all(2, b"chargelog: standard input cannot be read\n");
+        }
+    }
+}

@@ -1,0 +1,4 @@
+-- what the contract cites
+pub mod Printed
+-- laws
+pub mod Fits

@@ -1,0 +1,19 @@
+-- What printing a job comes to: the text in the lent buffer, or nothing where the buffer is too short for every text.
+use Prim.Native.Nat.{ℕ, _<_, _≤_}
+use mathlib.Core.Path.{_≡_}
+use mathlib.Core.List.{List}
+use lib.ListN.{length, take}
+use Rattle.spec.specs.Check.{Lent, firstFault}
+use Rattle.spec.specs.Report.{printedBy}
+use Rattle.print.specs.declared.Printed.{Printed}
+use Rattle.print.specs.declared.Printed.the-variants.{Text, NoRoom}
+
+-- No text is longer: a job line, 256 lines each for operations, log and pages.
+abbrev pub textSize : ℕ
+textSize = 85089
+
+-- for the bytes b, what is lent to the run, and the buffer before (s) and after (t): the first n bytes of the buffer, which has as many, are what is
+-- printed for the job's first fault, or for its run where it has none; or there was no room, and nothing is written
+abbrev pub Prints : List ℕ → Lent → List ℕ → List ℕ → Printed → Type 0
+Prints b l s t (Text n) = (textSize ≤ length s) × (n ≤ length t) × (take n t ≡ printedBy (firstFault l b) b)
+Prints b l s t NoRoom = (length s < textSize) × (t ≡ s)
