@@ -1,11 +1,19 @@
--- What reading the input answers: a number of bytes that the buffer has, or that a read failed.
+-- What reading the input answers, and what is printed of it.
 use Prim.Native.Nat.{ℕ, _≤_}
 use mathlib.Core.Path.{_≡_}
 use mathlib.Core.List.{List}
 use lib.ListN.{length, take}
+use Rattle.spec.specs.Report.{printed}
 use Rattle.chargelog.specs.declared.Input.{Input}
 use Rattle.chargelog.specs.declared.Input.the-variants.{Bytes, Failed}
 
+-- a number of bytes that the buffer has, or that a read failed
 abbrev pub Within : List ℕ → Input → Type 0
 Within t (Bytes n) = n ≤ length t
 Within t Failed = Unit {0}
+
+-- the first n bytes of the buffer, which has as many, are what is printed for the bytes b
+pub record Says (b t : List ℕ) (n : ℕ) : Type 0 where
+  pub within : n ≤ length t
+  pub counts : n ≡ length (take n t)
+  pub text : take n t ≡ printed b

@@ -2,7 +2,7 @@
 use print::Printed;
 ghost use Prim.Native.Nat.{_≤_};
 ghost use lib.ListN.{length};
-ghost use Rattle.chargelog.specs.Input.{Within};
+ghost use Rattle.chargelog.specs.Input.{Within, Says};
 
 // What standard input held: this many bytes; or a read failed.
 enum Input {
@@ -29,22 +29,26 @@ fn read_job(job: &mut [u8]) -> Input
     Input::Bytes(n)
 }
 
-// What a run is lent is enough for every job, so that refusal 11 never comes.
-fn show(job: &[u8]) {
+// What is printed for the job, and its length. What is lent is enough for every job, so that refusal 11 never comes, and there is room.
+fn text_of(job: &[u8], text: &mut [u8]) -> usize
+    requires { ⌜ 85089 ≤ length (now text) ⌝ }
+    ensures { λ n. ⌜ Says (now (job .entry)) (now (text .exit)) n ⌝ }
+{
     let mut result = [0u8; 21048];
     let mut rows = [[0u16; 10]; 256];
     let mut work = [0u8; 24576];
-    let mut text = [0u8; 85089];
-    let p = print::print(job, &mut result, &mut rows, &mut work, &mut text);
+    let p = print::print(job, &mut result, &mut rows, &mut work, text);
     match p {
-        Printed::Text(n) => {
-            if !io::write_all(1, &text[..n]) {
-                io::write_all(2, b"chargelog: standard output cannot be written\n");
-            }
-        }
-        Printed::NoRoom => {
-            io::write_all(2, b"chargelog: no room for the text\n");
-        }
+        Printed::Text(n) => n,
+        Printed::NoRoom => 0,
+    }
+}
+
+fn show(job: &[u8]) {
+    let mut text = [0u8; 85089];
+    let n = text_of(job, &mut text);
+    if !io::write_all(1, &text[..n]) {
+        io::write_all(2, b"chargelog: standard output cannot be written\n");
     }
 }
 

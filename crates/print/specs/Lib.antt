@@ -2,3 +2,4 @@
 pub mod Printed
 -- laws
 pub mod Fits
+pub mod Enough
