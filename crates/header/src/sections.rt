@@ -1,13 +1,11 @@
 // The sections of a job, read where they stand: nothing is copied, and nothing is written.
 use crate::Header;
-use spec::Kind;
-use spec::Op;
 ghost use mathlib.Core.Path.{_≡_};
 ghost use mathlib.Core.List.{[]};
 ghost use Prim.Native.Nat.{_-_, _^_, _≤_, _<_};
 ghost use lib.ListN.{length, getD};
-ghost use Rattle.spec.specs.Job.{noOp, opSize, pageSize, kindOf};
-ghost use Rattle.spec.specs.Decode.{headerOf, pageParts, opParts, opOf, jobOf};
+ghost use Rattle.spec.specs.Job.{opSize, pageSize};
+ghost use Rattle.spec.specs.Decode.{headerOf, pageParts, opParts, jobOf};
 ghost use Rattle.header.specs.Counts.{Heads};
 
 impl Header {
@@ -39,43 +37,11 @@ impl Header {
         &job[at..end]
     }
 
-    // Operation i.
-    pub fn op(self, job: &[u8], i: usize) -> Op
-        requires { ⌜ Heads self (now job) × (i < self .ops) ⌝ }
-        ensures { λ r. ⌜ r ≡ getD (jobOf (now (job .entry)) .ops) i noOp ⌝ }
-    {
-        op_of(self.op_bytes(job, i))
-    }
-
     // The operation that turn t names.
     pub fn turn(self, job: &[u8], t: usize) -> usize
         requires { ⌜ Heads self (now job) × (t < self .turns) ⌝ }
         ensures { λ r. ⌜ (r ≡ getD (jobOf (now (job .entry)) .turns) t 0) × (r < 65536) ⌝ }
     {
         wire::u16_at(job, self.turn_place(t))
-    }
-}
-
-// "kind (1 search, 2 insert, 3 delete)"
-fn kind_of(number: usize) -> Kind
-    ensures { λ r. ⌜ r ≡ kindOf number ⌝ }
-{
-    if number == 2 {
-        return Kind::Insert;
-    }
-    if number == 3 {
-        return Kind::Delete;
-    }
-    Kind::Search
-}
-
-fn op_of(bytes: &[u8]) -> Op
-    requires { ⌜ length (now bytes) ≡ opSize ⌝ }
-    ensures { λ r. ⌜ r ≡ opOf (now (bytes .entry)) ⌝ }
-{
-    Op {
-        kind: kind_of(wire::u8_at(bytes, 0)),
-        call: wire::u32_at(bytes, 2),
-        charge: wire::u32_at(bytes, 6),
     }
 }

@@ -2,32 +2,26 @@
 use Prim.Native.Nat.{ℕ, _+_, _*_, _<_}
 use mathlib.Core.Path.{_≡_, sym, ap, _∙_}
 use mathlib.Core.Bool.{true}
-use mathlib.Core.List.{List, []}
+use mathlib.Core.List.{List}
 use mathlib.Core.Option.{none}
 use native.Mathlib.Omega.{arith}
 use native.Mathlib.Nat.{add-zero}
 use native.Mathlib.Numerals.{add-one}
-use lib.ListN.{length, getD, take, drop, length-map, length-take, List·getD-map}
+use lib.ListN.{length, getD, take, length-take}
 use lib.Seq.{take-suc, take-take, split-at, getD-take}
 use Rattle.spec.specs.declared.Rec.{Rec}
 use Rattle.spec.specs.Basics.{isSome}
-use Rattle.spec.specs.Bytes.{byte, word, long, parts}
+use Rattle.spec.specs.Bytes.{byte, long}
 use Rattle.spec.specs.File.{findIn}
 use Rattle.spec.specs.Decode.{recordOf, pageOf}
-use Rattle.laws.specs.Codec.Parts.{length-parts, part-place, long-in}
+use Rattle.laws.specs.Codec.Parts.{long-in}
+use Rattle.laws.specs.Codec.Places.{record-part}
 use Rattle.laws.specs.Turns.Records.{find-hit, find-right, added-other}
 use Rattle.job.specs.Records.{noRecord}
 
-pub records-count : (p : List ℕ) → length (pageOf p .records) ≡ byte p 1
-unfolding pageOf
-records-count p = rw (length-map, length-parts)
-
 pub call-there : (p : List ℕ) (i : ℕ) → i < byte p 1 → getD (pageOf p .records) i noRecord .call ≡ long p (4 + 8 * i)
-unfolding pageOf recordOf long word byte
-call-there p i l =
-    ap (λ (r : Rec). r .call) (List·getD-map recordOf (parts (byte p 1) 8 (drop 4 p)) i [])
-    ∙ ap (λ s. long s 0) (part-place (byte p 1) 8 4 p i l)
-    ∙ rw add-zero at (long-in 8 (4 + 8 * i) p 0 (omega arith))
+unfolding recordOf
+call-there p i l = ap (λ (r : Rec). r .call) (record-part p i noRecord l) ∙ rw add-zero at (long-in 8 (4 + 8 * i) p 0 (omega arith))
 
 module _ (rs : List Rec) (k i : ℕ) (l : i < length rs) (h : findIn (take i rs) k ≡ none) where
   pub among-more : (getD rs i noRecord .call ≡ k → ⊥) → findIn (take (i + 1) rs) k ≡ none

@@ -1,4 +1,5 @@
 -- what the contracts cite
+pub mod Pages
 pub mod Owner
 pub mod Records
 -- laws for callers' proofs

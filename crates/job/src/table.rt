@@ -11,6 +11,7 @@ ghost use Rattle.spec.specs.Check.{wrongEntry, badPage, wrongPage};
 ghost use Rattle.spec.specs.Cases.{spotOf};
 ghost use Rattle.laws.specs.Codec.Rows.{Limits};
 ghost use Rattle.header.specs.Counts.{countsOf, Heads};
+ghost use Rattle.job.specs.Pages.{badHead};
 
 // 5 entry: "0 or above U"
 pub fn wrong_entry(job: &[u8], h: Header) -> Spot
@@ -29,25 +30,24 @@ pub fn wrong_entry(job: &[u8], h: Header) -> Spot
     Spot::Nowhere
 }
 
-// Every byte from a place on is zero.
+// Every byte from a place on is zero: so is their sum. (The loop has no way out, so that several bytes are added at a time.)
 fn is_zero(s: &[u8], from: usize) -> bool
-    requires { ⌜ from ≤ length (now s) ⌝ }
+    requires { ⌜ (from ≤ length (now s)) × (length (now s) ≤ 68) ⌝ }
     ensures { λ r. ⌜ r ≡ zeros (drop from (now (s .entry))) ⌝ }
 {
+    let mut sum: usize = 0;
     let mut i = from;
     while i < s.len() {
-        if s[i] != 0 {
-            return false;
-        }
+        sum += s[i] as usize;
         i += 1;
     }
-    true
+    sum == 0
 }
 
-// 6 page: "l above g, pattern 2^l or more, count above c, or an unused record or unused page not zero". Page x has these bytes
-fn bad_page(h: Header, x: usize, page: &[u8]) -> bool
+// A page in use: "l above g, pattern 2^l or more, count above c, or an unused record .. not zero".
+fn bad_used_page(h: Header, page: &[u8]) -> bool
     requires { ⌜ Limits (countsOf h) × (length (now page) ≡ pageSize (h .capacity)) ⌝ }
-    ensures { λ r. ⌜ r ≡ badPage (countsOf h) x (now (page .entry)) ⌝ }
+    ensures { λ r. ⌜ r ≡ badHead (countsOf h) (now (page .entry)) ⌝ }
 {
     let depth = wire::u8_at(page, 0);
     let count = wire::u8_at(page, 1);
@@ -60,13 +60,18 @@ fn bad_page(h: Header, x: usize, page: &[u8]) -> bool
     if h.capacity < count {
         return true;
     }
-    if !is_zero(page, 4 + 8 * count) {
-        return true;
-    }
+    !is_zero(page, 4 + 8 * count)
+}
+
+// 6 page, of page x, which has these bytes. A page that is not in use is bad unless it is zero, whatever else may be wrong with it.
+fn bad_page(h: Header, x: usize, page: &[u8]) -> bool
+    requires { ⌜ Limits (countsOf h) × (length (now page) ≡ pageSize (h .capacity)) ⌝ }
+    ensures { λ r. ⌜ r ≡ badPage (countsOf h) x (now (page .entry)) ⌝ }
+{
     if h.used < x {
         return !is_zero(page, 0);
     }
-    false
+    bad_used_page(h, page)
 }
 
 pub fn wrong_page(job: &[u8], h: Header) -> Spot

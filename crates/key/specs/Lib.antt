@@ -1,7 +1,4 @@
--- `if` by cases
-pub mod Cases
--- how a key is made, and that it has 32 bits
+-- how a key is made
 pub mod Reversal
--- laws of indices, bits and shared bits that hold of any key of 32 bits
-pub mod Index
+-- the bits that two keys share
 pub mod Shared

@@ -57,9 +57,9 @@ module _ {A : Type 0} where
   pub rest : {P : A → Type 0} {x : A} {xs : List A} → Each P (x ∷ xs) → Each P xs
   rest (next h t) = t
 
-  pub each-map : {P Q : A → Type 0} {xs : List A} → ((x : A) → P x → Q x) → Each P xs → Each Q xs
-  each-map f end = end
-  each-map f (next {q} h t) = next (f q h) (each-map f t)
+  pub each-imp : {P Q : A → Type 0} {xs : List A} → ((x : A) → P x → Q x) → Each P xs → Each Q xs
+  each-imp f end = end
+  each-imp f (next {q} h t) = next (f q h) (each-imp f t)
 
   pub each-append : {P : A → Type 0} (xs ys : List A) → Each P xs → Each P ys → Each P (xs ++ ys)
   each-append [] ys h k = k

@@ -7,10 +7,11 @@ use lib.ListN.{length}
 use Rattle.spec.specs.Bytes.{byte, word}
 use Rattle.spec.specs.Job.{pageSize}
 use Rattle.spec.specs.Decode.{pageOf}
+use Rattle.laws.specs.Codec.Parts.{byte-in}
 use Rattle.wire.specs.Over.{over}
 use Rattle.wire.specs.OverLaws.{length-over}
 use Rattle.wire.specs.Reads.{Apart, byte-over-other, word-same, near}
-use Rattle.wire.specs.Parts.{byte-part, same-bytes}
+use Rattle.wire.specs.Parts.{same-bytes}
 use Rattle.memory.specs.Memory.{locksAt, usedAt, turnsAt, entryIn, lockIn, usedIn, turnIn, placeOf, partIn, pageIn}
 use Rattle.memory.specs.Within.{Within}
 use Rattle.memory.specs.Places.{part-length}
@@ -49,7 +50,7 @@ module _ {at n : ℕ} {w t : List ℕ} (o : Beside at n w t) where
   pub part-kept : {c x : ℕ} → Within w c x → Apart (placeOf c x) (pageSize c) at n → partIn c t x ≡ partIn c w x
   part-kept {c} {x} i h =
       same-bytes (partIn c t x) (partIn c w x) (pageSize c) (part-length (within-kept i)) (part-length i)
-      (λ j l. unfold partIn in byte-part t (placeOf c x) (pageSize c) j l ∙ o .bytes (placeOf c x + j) (near (placeOf c x) at n (pageSize c) j h l) ∙ sym (byte-part w (placeOf c x) (pageSize c) j l))
+      (λ j l. unfold partIn in byte-in (pageSize c) (placeOf c x) t j l ∙ o .bytes (placeOf c x + j) (near (placeOf c x) at n (pageSize c) j h l) ∙ sym (byte-in (pageSize c) (placeOf c x) w j l))
 
   pub page-kept : {c x : ℕ} → Within w c x → Apart (placeOf c x) (pageSize c) at n → pageIn c t x ≡ pageIn c w x
   unfolding pageIn

@@ -8,9 +8,9 @@ use lib.ListN.{length}
 use Rattle.spec.specs.Bytes.{byte}
 use Rattle.spec.specs.Job.{pageSize}
 use Rattle.spec.specs.Check.{workSize}
+use Rattle.laws.specs.Codec.Pages.{records-count}
 use Rattle.wire.specs.Parts.{length-part}
 use Rattle.page.specs.Room.{room, room-size, Sound, sound}
-use Rattle.page.specs.View.{count-is}
 use Rattle.memory.specs.Memory.{pagesAt, placeOf, partIn, pageIn}
 use Rattle.memory.specs.Within.{Within}
 
@@ -41,7 +41,7 @@ place-behind c x y h = omega (arith, mul-le-mul-left (pageSize c) h, mul-suc (pa
 -- the count that a page's bytes have is its records'
 pub part-count : (c : ℕ) (w : List ℕ) (x : ℕ) → length (pageIn c w x .records) ≡ byte (partIn c w x) 1
 unfolding pageIn
-part-count c w x = count-is (partIn c w x)
+part-count c w x = records-count (partIn c w x)
 
 module _ {w : List ℕ} {c x : ℕ} (o : Within w c x) where
   pub part-fits : placeOf c x + pageSize c ≤ length w

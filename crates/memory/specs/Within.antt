@@ -11,10 +11,17 @@ pub record Within (w : List ℕ) (c x : ℕ) : Type 0 where
   pub capacity : c ≤ 8
   pub number : x ≤ 256
 
--- the memory is large enough, and the bytes b have n entries and P pages of capacity c from place `at` on
+-- the memory is large enough, and the bytes b have room for n entries and P pages of capacity c from place `at` on
 pub record FileIn (w b : List ℕ) (at n c P : ℕ) : Type 0 where
   pub size : workSize ≤ length w
   pub entries : n ≤ 256
   pub capacity : c ≤ 8
   pub pages : P ≤ 256
   pub room : at + entrySize * n + pageSize c * P ≤ length b
+
+-- the memory is large enough for the directory d and the pages p, of capacity c
+pub record Loads (w d p : List ℕ) (c : ℕ) : Type 0 where
+  pub size : workSize ≤ length w
+  pub directory : length d ≤ entrySize * 256
+  pub capacity : c ≤ 8
+  pub pages : length p ≤ pageSize c * 256

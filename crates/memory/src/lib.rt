@@ -16,9 +16,9 @@ ghost use Rattle.spec.specs.Cases.{foundOf};
 ghost use Rattle.spec.specs.Split.{added, grow, leastShared, splitCount};
 ghost use Rattle.spec.specs.Turn.{cleared};
 ghost use Rattle.wire.specs.Over.{over};
-ghost use Rattle.page.specs.Splits.{Splits, Enough};
+ghost use Rattle.pieces.specs.Splits.{Splits, Enough};
 ghost use Rattle.memory.specs.Memory.{entryIn, withEntry, lockIn, withLocks, usedIn, withUsed, turnIn, withTurn, placeOf, partIn, pageIn, withPage};
-ghost use Rattle.memory.specs.Within.{Within, FileIn};
+ghost use Rattle.memory.specs.Within.{Within, FileIn, Loads};
 ghost use Rattle.memory.specs.Load.{loaded, saved};
 
 // What does not change in a run: global depth g, capacity c and page count P.
@@ -130,14 +130,14 @@ pub fn least_shared_in(work: &[u8], c: usize, x: u16, call: u32) -> usize
     requires { ⌜ Within (now work) c x × (length (pageIn c (now work) x .records) ≤ c) ⌝ }
     ensures { λ r. ⌜ (r ≡ leastShared (pageIn c (now (work .entry)) x .records) call) × (r ≤ 32) ⌝ }
 {
-    page::least_shared(part(work, c, x), call)
+    pieces::least_shared(part(work, c, x), call)
 }
 
 pub fn split_count_in(work: &[u8], c: usize, x: u16, call: u32) -> usize
     requires { ⌜ Within (now work) c x × (length (pageIn c (now work) x .records) ≤ c) ⌝ }
     ensures { λ r. ⌜ r ≡ splitCount (pageIn c (now (work .entry)) x) call ⌝ }
 {
-    page::split_count(part(work, c, x), call)
+    pieces::split_count(part(work, c, x), call)
 }
 
 // ---- writing numbers
@@ -206,7 +206,7 @@ pub fn write_old_page(work: &mut [u8], c: usize, x: u16, r: Rec)
 {
     let a = place(c, x);
     let e = a + (4 + 8 * c);
-    page::write_old(&mut work[a..e], r);
+    pieces::write_old(&mut work[a..e], r);
 }
 
 // n bytes, from a lower place to a higher one that they do not reach.
@@ -237,24 +237,18 @@ pub fn write_new_page(work: &mut [u8], c: usize, x: u16, y: u16, i: u16, r: Rec)
     copy_page(work, c, x, y);
     let a = place(c, y);
     let e = a + (4 + 8 * c);
-    page::write_new(&mut work[a..e], i as usize, r);
+    pieces::write_new(&mut work[a..e], i as usize, r);
 }
 
 // ---- the whole file
 
-// The file of a job: its directory, of some entries, its pages, and the number of pages in use. "At the start no page is locked".
-pub fn load_file(work: &mut [u8], job: &[u8], entries: usize, c: usize, pages: usize, used: usize)
-    requires { ⌜ FileIn (now work) (now job) 32 entries c pages ⌝ }
-    ensures { λ _. ⌜ now (work .exit) ≡ loaded (now (work .entry)) (now (job .entry)) entries c pages used ⌝ }
+// The file of a job: its directory, its pages of capacity c, and the number of pages in use. "At the start no page is locked".
+pub fn load_file(work: &mut [u8], directory: &[u8], pages: &[u8], c: usize, used: usize)
+    requires { ⌜ Loads (now work) (now directory) (now pages) c ⌝ }
+    ensures { λ _. ⌜ now (work .exit) ≡ loaded (now (work .entry)) (now (directory .entry)) (now (pages .entry)) c used ⌝ }
 {
-    wire::copy(job, 32, work, 0, 2 * entries);
-    wire::copy(
-        job,
-        32 + 2 * entries,
-        work,
-        place(c, 1),
-        (4 + 8 * c) * pages,
-    );
+    wire::copy(directory, 0, work, 0, directory.len());
+    wire::copy(pages, 0, work, place(c, 1), pages.len());
     set_used(work, used);
     set_locks(work, 0, 257, 0);
 }

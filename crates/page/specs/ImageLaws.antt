@@ -12,20 +12,14 @@ use Rattle.spec.specs.Job.{pageSize}
 use Rattle.spec.specs.Encode.{recordBytes, pageBytes}
 use Rattle.spec.specs.Decode.{pageOf}
 use Rattle.spec.specs.Split.{added}
+use Rattle.laws.specs.Codec.Parts.{each-snoc}
+use Rattle.laws.specs.Codec.Sections.{length-record, length-records}
 use Rattle.wire.specs.Over.{over}
 use Rattle.wire.specs.OverLaws.{over-none, over-over, over-swap, over-whole, length-over}
 use Rattle.wire.specs.Reads.{over-long, long-over-other}
 use Rattle.page.specs.Room.{room, Sound}
 use Rattle.page.specs.View.{recordAt, recordsFrom, record-read, records-none, records-cons, records-all}
 use Rattle.page.specs.Image.{closed}
-use Rattle.page.specs.Lists.{each-snoc, each-length}
-
-pub record-length : (r : Rec) → length (recordBytes r) ≡ 8
-unfolding recordBytes four two
-record-length r = refl
-
-pub records-size : (rs : List Rec) → length (each recordBytes rs) ≡ 8 * length rs
-records-size rs = each-length recordBytes 8 record-length rs
 
 -- a record by its two numbers
 pub over-record : (s : List ℕ) (at : ℕ) (r : Rec) → over (over s at (four (r .call))) (at + 4) (four (r .charge)) ≡ over s at (recordBytes r)
@@ -39,7 +33,7 @@ pub over-more
     → over (over s 4 (each recordBytes rs)) (pageSize m) (recordBytes r) ≡ over s 4 (each recordBytes (rs ++ (r ∷ [])))
 over-more s rs m r e =
     rw (each-snoc recordBytes rs r)
-    (over-over (each recordBytes rs) (recordBytes r) s 4 (pageSize m) (omega (arith, records-size rs)))
+    (over-over (each recordBytes rs) (recordBytes r) s 4 (pageSize m) (omega (arith, length-records rs)))
 
 -- a record behind what is written is as it was
 pub record-behind
@@ -62,7 +56,7 @@ owns : (s : List ℕ) (i n : ℕ) → ((k : ℕ) → byte s k < 256) → over s 
 unfolding each
 owns s i zero b = rw (records-none s i) (over-none s (pageSize i))
 owns s i (suc n) b =
-    let more = over-over (recordBytes (recordAt s i)) (each recordBytes (recordsFrom s (suc i) n)) s (pageSize i) (pageSize (suc i)) (omega (arith, record-length (recordAt s i))) in
+    let more = over-over (recordBytes (recordAt s i)) (each recordBytes (recordsFrom s (suc i) n)) s (pageSize i) (pageSize (suc i)) (omega (arith, length-record (recordAt s i))) in
     rw (records-cons s i n) (sym more ∙ rw (own s i b) (owns s (suc i) n b))
 
 pub over-records : (s : List ℕ) → ((k : ℕ) → byte s k < 256) → over s 4 (each recordBytes (pageOf s .records)) ≡ s
@@ -88,8 +82,8 @@ closed-image s rs d n pattern e f h =
     let gap : length (over s 4 x) - pageSize n ≡ 8 * (room (length s) - n) = omega (arith, length-over s 4 x) in
     let z : List ℕ = replicate (8 * (room (length s) - n)) 0 in
     let zeros : length z ≡ 8 * (room (length s) - n) = length-replicate (8 * (room (length s) - n)) 0 in
-    let all : length (head ++ (x ++ z)) ≡ length s = omega (arith, length-append x z, records-size rs) in
-    rw (gap, over-over x z s 4 (pageSize n) (omega (arith, records-size rs)), over-swap head (x ++ z) s 0 4 (omega arith), over-over head (x ++ z) s 0 4 refl, over-whole (head ++ (x ++ z)) s all, f)
+    let all : length (head ++ (x ++ z)) ≡ length s = omega (arith, length-append x z, length-records rs) in
+    rw (gap, over-over x z s 4 (pageSize n) (omega (arith, length-records rs)), over-swap head (x ++ z) s 0 4 (omega arith), over-over head (x ++ z) s 0 4 refl, over-whole (head ++ (x ++ z)) s all, f)
     (sym (append-assoc head x z))
 
 -- one record more behind a page's own

@@ -13,14 +13,16 @@ use Rattle.spec.specs.Bytes.{byte}
 use Rattle.spec.specs.Job.{pageSize}
 use Rattle.spec.specs.Encode.{recordBytes, pageBytes}
 use Rattle.spec.specs.Decode.{pageOf}
+use Rattle.laws.specs.Tools.{filter-le}
+use Rattle.laws.specs.Codec.Sections.{length-records}
 use Rattle.wire.specs.Over.{over}
 use Rattle.wire.specs.OverLaws.{over-none, length-over}
 use Rattle.page.specs.View.{recordAt, recordsFrom, records-all, records-none, records-snoc, records-length}
 use Rattle.page.specs.Room.{room, Sound}
 use Rattle.page.specs.Image.{closed}
 use Rattle.page.specs.Keep.{Kept}
-use Rattle.page.specs.Lists.{filter-nil, filter-take, filter-skip, filter-snoc, filter-le}
-use Rattle.page.specs.ImageLaws.{records-size, over-more, record-behind, closed-image}
+use Rattle.page.specs.Lists.{filter-nil, filter-take, filter-skip, filter-snoc}
+use Rattle.page.specs.ImageLaws.{over-more, record-behind, closed-image}
 
 pub kept-start : (f : Rec → Bool) (s : List ℕ) → Kept f s s 0 0
 unfolding each
@@ -37,7 +39,7 @@ module _ {f : Rec → Bool} {s t : List ℕ} {m j : ℕ} (k : Kept f s t m j) wh
   pub kept-behind : recordAt t j ≡ recordAt s j
   kept-behind =
       let x = filter f (recordsFrom s 0 j) in
-      ap (λ (l : List ℕ). recordAt l j) (k .bytes) ∙ record-behind s (each recordBytes x) j (omega (arith, records-size x, k .many, kept-few))
+      ap (λ (l : List ℕ). recordAt l j) (k .bytes) ∙ record-behind s (each recordBytes x) j (omega (arith, length-records x, k .many, kept-few))
 
   next : filter f (recordsFrom s 0 (j + 1)) ≡ filter f (recordsFrom s 0 j) ++ filter f (recordAt s j ∷ [])
   next = rw (add-one, records-snoc s 0 j, zero-add) (filter-snoc f (recordsFrom s 0 j) (recordAt s j))

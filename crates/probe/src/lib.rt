@@ -14,7 +14,7 @@ ghost use Rattle.spec.specs.Turn.{cleared};
 ghost use Rattle.spec.specs.Cases.{foundOf};
 ghost use Rattle.spec.specs.declared.Rec.{Rec as RecV};
 ghost use Rattle.page.specs.Room.{room, Sound};
-ghost use Rattle.page.specs.Splits.{Splits, Enough};
+ghost use Rattle.pieces.specs.Splits.{Splits, Enough};
 ghost use Rattle.probe.specs.Numbers.{foundNumber, recFor};
 
 // The charge of a call in a page, or 2^32 where it is not there.
@@ -57,7 +57,7 @@ pub extern "C" fn probe_split_count(page: &[u8], call: u32) -> usize
     requires { ⌜ pageSize (byte (now page) 1) ≤ length (now page) ⌝ }
     ensures { λ r. ⌜ r ≡ splitCount (pageOf (now (page .entry))) call ⌝ }
 {
-    page::split_count(page, call)
+    pieces::split_count(page, call)
 }
 
 #[no_mangle]
@@ -65,7 +65,7 @@ pub extern "C" fn probe_write_old(page: &mut [u8], call: u32, charge: u32)
     requires { ⌜ Sound (now page) × Splits (room (length (now page))) (pageOf (now page)) (recFor call charge) ⌝ }
     ensures { λ _. ⌜ ((g : ℕ) → Enough g (pageOf (now (page .entry))) (recFor call charge) → now (page .exit) ≡ pageBytes (room (length (now (page .entry)))) (grow (room (length (now (page .entry)))) (suc g) (pageOf (now (page .entry))) (recFor call charge) .old)) ⌝ }
 {
-    page::write_old(
+    pieces::write_old(
         page,
         Rec {
             call: call,
@@ -80,7 +80,7 @@ pub extern "C" fn probe_write_new(page: &mut [u8], i: usize, call: u32, charge: 
     requires { ⌜ Sound (now page) × Splits (room (length (now page))) (pageOf (now page)) (recFor call charge) × (1 ≤ i) × (i ≤ splitCount (pageOf (now page)) call) ⌝ }
     ensures { λ _. ⌜ ((g : ℕ) → Enough g (pageOf (now (page .entry))) (recFor call charge) → now (page .exit) ≡ pageBytes (room (length (now (page .entry)))) (getD (grow (room (length (now (page .entry)))) (suc g) (pageOf (now (page .entry))) (recFor call charge) .news) (i - 1) zeroPage)) ⌝ }
 {
-    page::write_new(
+    pieces::write_new(
         page,
         i,
         Rec {

@@ -1,6 +1,6 @@
 -- A result that is written comes back when it is read, also with other bytes behind it.
-use mathlib.Core.Path.{_≡_, refl, ap, ap₂, _∙_}
-use mathlib.Core.List.{List, [], _∷_, _++_, map, append-assoc}
+use mathlib.Core.Path.{_≡_, refl, ap, _∙_}
+use mathlib.Core.List.{List, [], _++_, map, append-assoc}
 use mathlib.Core.Option.{Option, none, some}
 use Prim.Native.Nat.{ℕ, _+_, _^_, _≤_, _<_}
 use native.Mathlib.Omega.{arith}
@@ -14,10 +14,13 @@ use Rattle.spec.specs.Job.{maxOps}
 use Rattle.spec.specs.Encode.{encodeFile}
 use Rattle.spec.specs.Decode.{jobOf}
 use Rattle.spec.specs.Result.{Told, Line, Result, answerBytes, lineBytes, logOffset, fileOffset, offsetField, fileBytes, resultHeader, encodeResult}
-use Rattle.spec.specs.Proper.{Each, end, next}
-use Rattle.laws.specs.Codec.Tools.{every, each-imp}
-use Rattle.laws.specs.Codec.Parts.{length-each, parts-each}
+use Rattle.spec.specs.Proper.{Each}
+use Rattle.laws.specs.Tools.{each-imp}
+use Rattle.laws.specs.Codec.Tools.{every}
 use Rattle.laws.specs.Codec.Numbers.{word-two, long-four}
+use Rattle.laws.specs.Codec.Sections.{section}
+use Rattle.laws.specs.Codec.Back.{map-back}
+use Rattle.laws.specs.Codec.Sizes.{length-answer, length-line, length-result-header, length-answers, length-lines}
 use Rattle.laws.specs.Codec.Written.{file-accepted, file-comes-back}
 use Rattle.lines.specs.Told.{answerOf, lineOf}
 use Rattle.report.specs.Read.{answersIn, logIn, fileIn, resultIn}
@@ -34,23 +37,7 @@ line-back : (l : Line) → LineFits l → lineOf (lineBytes l) ≡ l
 unfolding lineOf lineBytes word byte two
 line-back l h = λ i. record { moment = word-two (l .moment) [] (h .moment) i; op = word-two (l .op) [] (h .op) i }
 
-length-answer : (a : Told) → length (answerBytes a) ≡ 8
-unfolding answerBytes two four
-length-answer a = refl
-
-length-line : (l : Line) → length (lineBytes l) ≡ 4
-unfolding lineBytes two
-length-line l = refl
-
-length-header : (r : Result) (n : ℕ) → length (resultHeader r n) ≡ 24
-unfolding resultHeader two four
-length-header r n = refl
-
 -- a section of b, written behind `before`, is read
-map-back : {A : Type 0} (dec : List ℕ → A) (enc : A → List ℕ) {xs : List A} → Each (λ x. dec (enc x) ≡ x) xs → map dec (map enc xs) ≡ xs
-map-back dec enc end = refl
-map-back dec enc (next e es) = ap₂ _∷_ e (map-back dec enc es)
-
 section-back
     : {A : Type 0} (dec : List ℕ → A) (enc : A → List ℕ) (size : ℕ) {at : ℕ} {b : List ℕ} (xs : List A) (before after : List ℕ)
     → ((x : A) → length (enc x) ≡ size)
@@ -59,7 +46,7 @@ section-back
     → b ≡ before ++ (each enc xs ++ after)
     → map dec (parts (length xs) size (drop at b)) ≡ xs
 section-back dec enc size {at = at} xs before after wide back start e =
-    rw (e, drop-at before _ at start, parts-each enc size xs after (every wide xs)) (map-back dec enc back)
+    ap (map dec) (section enc size before after (every wide xs) refl start e) ∙ map-back dec enc back
 
 -- the header of the bytes b is that of the result r
 pub record HeaderTells (b : List ℕ) (r : Result) : Type 0 where
@@ -93,11 +80,11 @@ module _ (m : ℕ) (r : Result) (most : m ≤ maxOps) (fits : ResultFits m r) (p
 
   to-log : length (H ++ A) ≡ logOffset r
   unfolding logOffset
-  to-log = rw (length-append, length-header, length-each answerBytes 8 (r .answers) (every length-answer (r .answers)))
+  to-log = rw (length-append, length-result-header, length-answers)
 
   to-file : length (H ++ A ++ L) ≡ fileOffset r
   unfolding fileOffset
-  to-file = rw (length-append, to-log, length-each lineBytes 4 (r .log) (every length-line (r .log)))
+  to-file = rw (length-append, to-log, length-lines)
 
   few : length (r .answers) ≤ 256
   few = omega (arith, fits .count)
@@ -133,7 +120,7 @@ module _ (m : ℕ) (r : Result) (most : m ≤ maxOps) (fits : ResultFits m r) (p
   unfolding answersIn
   answers-back =
       rw (header-back .answerCount, header-back .answers)
-      (section-back answerOf answerBytes 8 (r .answers) H (L ++ (F ++ post)) length-answer (each-imp answer-back (fits .answers)) (length-header r (length F)) header-first)
+      (section-back answerOf answerBytes 8 (r .answers) H (L ++ (F ++ post)) length-answer (each-imp answer-back (fits .answers)) (length-result-header r (length F)) header-first)
 
   log-back : logIn bytes ≡ r .log
   unfolding logIn

@@ -17,7 +17,7 @@ use Rattle.report.specs.Fits.{ResultFits}
 use Rattle.report.specs.Right.{report-same}
 
 -- a text written at the front of a buffer with room for it
-front : {k n : ℕ} {s x t : List ℕ} → k ≤ length s → Wrote k s 0 x t n → take n t ≡ x
+pub front : {k n : ℕ} {s x t : List ℕ} → k ≤ length s → Wrote k s 0 x t n → take n t ≡ x
 front {k} {n} {s} {x} {t} h w =
     let e : length x ≡ n = omega (arith, w .stop) in
     ap (take n) (w .bytes) ∙ part-over s x 0 n e (omega (arith, w .near))

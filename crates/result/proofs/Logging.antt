@@ -13,13 +13,15 @@ use Rattle.spec.specs.Code.{notYet}
 use Rattle.spec.specs.State.{Row, gone}
 use Rattle.spec.specs.Result.{Line, lineSize, lineBytes, linesFrom}
 use Rattle.spec.specs.Proper.{Each}
-use Rattle.laws.specs.Tools.{if-case, if-true, if-false, each-map}
+use Rattle.laws.specs.Tools.{if-case, if-true, if-false, each-imp}
+use Rattle.laws.specs.Codec.Parts.{each-join}
+use Rattle.laws.specs.Codec.Sizes.{length-lines}
 use Rattle.wire.specs.Over.{over}
 use Rattle.wire.specs.OverLaws.{length-over, over-none}
 use Rattle.result.specs.Marks.{markNumber, markOf, markPlace}
 use Rattle.result.specs.Lines.{line, seat, placed, linesIn, withLine, Logged, LogWritten}
 use Rattle.result.specs.Joined.{renewed}
-use Rattle.result.specs.LineLaws.{each-join, length-lines, lines-back, Small}
+use Rattle.result.specs.LineLaws.{lines-back, Small}
 use Rattle.result.specs.LogLaws.{log-none, log-same, log-more, from-small, seat-le, placed-length}
 
 pub record Logging (w : List ℕ) (m : ℕ) (s₀ : List ℕ) (at i : ℕ) (s : List ℕ) (k : ℕ) : Type 0 where
@@ -68,7 +70,7 @@ mark-moment r h = if-false _ _ (ne-eqb _ _ (mark-code r h))
 small : (n i : ℕ) (rs : List Row) → n ≤ 65535 → i ≤ 65535 → i ≤ length rs → Each Small (linesFrom n 0 (take i rs))
 small n i rs h k g =
     let l = length-take-le i rs g in
-    each-map (λ q z. record { moment = omega (arith, z .0); op = omega (arith, z .1) }) (from-small n 0 (take i rs))
+    each-imp (λ q z. record { moment = omega (arith, z .0); op = omega (arith, z .1) }) (from-small n 0 (take i rs))
 
 -- a line put in its place in the buffer is the lines with that line in its place
 put-at

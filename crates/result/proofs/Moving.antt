@@ -11,12 +11,13 @@ use Rattle.spec.specs.Basics.{each}
 use Rattle.spec.specs.Bytes.{word}
 use Rattle.spec.specs.Result.{Line, lineSize, lineBytes}
 use Rattle.laws.specs.Tools.{if-true, if-false}
+use Rattle.laws.specs.Codec.Sizes.{length-line}
 use Rattle.wire.specs.Over.{over}
 use Rattle.wire.specs.OverLaws.{length-over, over-none}
 use Rattle.wire.specs.Reads.{word-over-other}
 use Rattle.result.specs.Joined.{over-before}
 use Rattle.result.specs.Lines.{line, seat, lineIn, linesIn, withLine}
-use Rattle.result.specs.LineLaws.{length-line, lines-count, lines-read}
+use Rattle.result.specs.LineLaws.{lines-count, lines-read}
 
 pub record Moving (s₀ : List ℕ) (at n t j : ℕ) (s : List ℕ) : Type 0 where
   pub few : j ≤ n

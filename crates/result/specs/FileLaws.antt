@@ -1,38 +1,31 @@
 -- The charge file: its header, directory and pages as they are written are the file's bytes.
 use mathlib.Core.Path.{_≡_, refl, sym, ap, _∙_}
 use mathlib.Core.List.{List, [], _∷_, _++_, append-assoc, append-nil}
-use Prim.Native.Nat.{ℕ, suc, _+_, _*_, _/_, _%_, _^_, _≤_, _<_}
-use native.Mathlib.Nat.{mul-zero}
-use native.Mathlib.Numerals.{add-one}
+use Prim.Native.Nat.{ℕ, suc, _+_, _*_, _^_, _≤_, _<_}
+use native.Mathlib.Nat.{mul-zero, mod-eq-of-lt}
 use native.Mathlib.Omega.{arith}
 use lib.Pow.{pow-mono}
 use lib.ListN.{length, getD, take, drop, replicate, length-drop, length-append}
-use lib.Seq.{drop-cons, drop-drop, take-add, getD-drop, length-take-le}
+use lib.Seq.{drop-drop, take-add, getD-drop, length-take-le}
 use Rattle.spec.specs.Basics.{each}
 use Rattle.spec.specs.Bytes.{byte, word, two, four}
 use Rattle.spec.specs.File.{File, zeroPage, pageAt, entryAt}
 use Rattle.spec.specs.Job.{pageSize, tableOffset, opsOffset, turnsOffset, total}
 use Rattle.spec.specs.Encode.{headerBytes, headerFor, pageBytes, encodeJob, encodeFile}
 use Rattle.spec.specs.Check.{workSize}
+use Rattle.laws.specs.Codec.Numbers.{low, high, two-read}
+use Rattle.laws.specs.Codec.Pieces.{two-bytes}
 use Rattle.laws.specs.Codec.Sections.{length-header}
 use Rattle.wire.specs.Over.{over}
 use Rattle.wire.specs.OverLaws.{over-over}
 use Rattle.wire.specs.Parts.{length-part}
-use Rattle.wire.specs.Reads.{two-word}
 use Rattle.memory.specs.Memory.{entryIn, usedIn, placeOf, partIn}
 use Rattle.memory.specs.Load.{saved}
 use Rattle.memory.specs.Places.{pages-end}
 use Rattle.result.specs.Joined.{four as joined}
 use Rattle.result.specs.Finish.{fileHeader, fileSize, FileShown}
 
--- depth and capacity are a byte each
-low : (g c : ℕ) → g < 256 → (g + 256 * c) % 256 ≡ g
-low g c h = omega arith
-
-high : (g c : ℕ) → g < 256 → c < 256 → (g + 256 * c) / 256 % 256 ≡ c
-high g c h k = omega arith
-
--- the header, written in four pieces
+-- the header, written in four pieces: depth and capacity are a byte each
 pub file-header
     : {s₁ s₂ s₃ s₄ : List ℕ} (s : List ℕ) (at g c P u T E : ℕ)
     → s₁ ≡ over s at (two 1 ++ two (g + 256 * c) ++ two P ++ two u)
@@ -50,7 +43,7 @@ file-header s at g c P u T E p q r v h k e f =
     let y : 32 + 2 * 2 ^ g + (4 + 8 * c) * P + 2 * 0 ≡ 32 + 2 * 2 ^ g + (4 + 8 * c) * P = omega arith in
     joined s (two 1 ++ two (g + 256 * c) ++ two P ++ two u) (replicate 4 0) (four 32 ++ four T ++ four E ++ four E) at (at + 8) (at + 12) (four E) (at + 28)
     p q r v refl (omega arith) (omega arith)
-    ∙ rw (x, y, low g c h, high g c h k, e, f)
+    ∙ rw (x, y, low 256 g c h, high 256 g c h, mod-eq-of-lt k, e, f)
 
 -- members whose bytes stand one behind another
 stand
@@ -70,8 +63,7 @@ stand enc size d (x ∷ xs) w h =
 
 -- two bytes are those of their number
 two-stands : (w : List ℕ) (p : ℕ) → ((k : ℕ) → byte w k < 256) → p + 2 ≤ length w → two (word w p) ≡ take 2 (drop p w)
-unfolding byte
-two-stands w p b h = two-word w p b ∙ rw (add-one, drop-cons w p 0 (omega arith), drop-cons w (suc p) 0 (omega arith))
+two-stands w p b h = two-read w p (b p) (b (p + 1)) ∙ two-bytes w p h .same
 
 -- a file that the memory shows
 module _ {f : File} {g c P : ℕ} {w : List ℕ} (h : FileShown f g c P w) (long : workSize ≤ length w) where

@@ -10,19 +10,16 @@ use Rattle.spec.specs.Bytes.{two, four}
 use Rattle.spec.specs.File.{File}
 use Rattle.spec.specs.Encode.{encodeFile}
 use Rattle.spec.specs.State.{State}
-use Rattle.spec.specs.Result.{Told, toldOf, linesFrom, logOf, Result, resultOf, answerBytes, lineBytes, logOffset, fileOffset, offsetField, fileBytes, resultHeader, encodeResult}
+use Rattle.spec.specs.Result.{toldOf, linesFrom, logOf, Result, resultOf, answerBytes, lineBytes, logOffset, fileOffset, offsetField, fileBytes, resultHeader, encodeResult}
 use borrow.Author.Tests.{eq-eqb, ne-eqb}
 use Rattle.laws.specs.Tools.{if-true, if-false}
-use Rattle.laws.specs.Codec.Tools.{every}
-use Rattle.laws.specs.Codec.Parts.{length-each}
-use Rattle.laws.specs.Codec.Sizes.{length-result}
+use Rattle.laws.specs.Codec.Sizes.{length-result-header, length-answers, length-lines, length-result}
 use Rattle.wire.specs.Over.{over}
 use Rattle.wire.specs.OverLaws.{over-none, over-over}
 use Rattle.wire.specs.Parts.{length-part, over-part}
 use Rattle.result.specs.Joined.{over-before}
 use Rattle.result.specs.Finish.{Heads, Ready, Finished}
 use Rattle.result.specs.Lines.{LogWritten}
-use Rattle.result.specs.LineLaws.{length-lines}
 
 -- the header, in two pieces
 pub result-header
@@ -70,17 +67,6 @@ module _ {s₁ s₂ s₃ : List ℕ} (s H A B F : List ℕ) (at end : ℕ) where
       let two : s₂ ≡ over s 24 (A ++ B ++ F) = q ∙ rw one (over-over (A ++ B) F s 24 end (rw length-append (omega arith))) in
       r ∙ rw two (over-before s H (A ++ B ++ F) 0 24 (omega arith)) ∙ ap (over s 0) (regroup H A B F)
 
-length-answer : (a : Told) → length (answerBytes a) ≡ 8
-unfolding answerBytes two four
-length-answer a = refl
-
-pub length-answers : (xs : List Told) → length (each answerBytes xs) ≡ 8 * length xs
-length-answers xs = length-each answerBytes 8 xs (every length-answer xs)
-
-length-head : (r : Result) (n : ℕ) → length (resultHeader r n) ≡ 24
-unfolding resultHeader two four
-length-head r n = refl
-
 -- a result r, whose answers stand in the buffer b
 finished
     : {b b₁ b₂ b₃ : List ℕ} {m lines under file total : ℕ} (r : Result)
@@ -100,7 +86,7 @@ finished {b} {m = m} {lines = lines} r a p q h v l =
     let k : length B ≡ 4 * lines = length-lines (r .log) ∙ (omega (arith, h .log)) in
     record {
       bytes =
-          pieces b (resultHeader r (length F)) A B F (24 + 8 * m) (logEnd m lines) (rw n a) p q v (length-head r (length F))
+          pieces b (resultHeader r (length F)) A B F (24 + 8 * m) (logEnd m lines) (rw n a) p q v (length-result-header r (length F))
           (omega arith)
           (omega arith)
           (omega (arith, h .end, h .answers, h .log));

@@ -1,7 +1,7 @@
 -- What an operation's row of numbers tells is what its row in the machine tells.
 use mathlib.Core.Path.{_≡_, refl}
-use mathlib.Core.List.{_++_}
-use Prim.Native.Nat.{ℕ, _/_, _%_, _<_}
+use mathlib.Core.List.{List, _++_}
+use Prim.Native.Nat.{ℕ, _/_, _%_, _≤_, _<_}
 use native.Mathlib.Omega.{arith}
 use Rattle.spec.specs.declared.Task.{Task}
 use Rattle.spec.specs.declared.Task.the-variants.{Verify, Release, Decide, WritePage, WriteOld, Unlock}
@@ -16,7 +16,8 @@ use Rattle.spec.specs.State.{Row as State-Row}
 use Rattle.spec.specs.Result.{toldOf, answerBytes, underWay}
 use Rattle.turn.specs.declared.Row.{Row}
 use Rattle.turn.specs.Rows.{stageNumbers, taskNumbers, partNumbers, rowImage}
-use Rattle.result.specs.Marks.{markOf, markNumber, begunNumber}
+use Rattle.laws.specs.Tools.{if-case}
+use Rattle.result.specs.Marks.{markOf, markNumber, begunNumber, withAnswer, withMark, Tells}
 
 pub mark-image : (r : State-Row) (row : Row) → rowImage r ≡ row → markNumber (row .code) (row .moment) ≡ markOf r
 unfolding markOf rowImage
@@ -62,3 +63,17 @@ begun-stage Done = refl
 pub begun-image : (r : State-Row) (row : Row) → rowImage r ≡ row → begunNumber (row .stage) ≡ digit (underWay (r .stage))
 unfolding rowImage
 begun-image r row e = rw (← e) (begun-stage (r .stage))
+
+-- what telling a row of numbers does is what is to be told of the machine's row
+pub tells
+    : (r : State-Row) (row : Row) (i : ℕ) (s w : List ℕ)
+    → rowImage r ≡ row
+    → r .code < 256
+    → Tells r i s (withAnswer row i s) w (withMark row i w) (begunNumber (row .stage))
+unfolding withAnswer withMark
+tells r row i s w e h =
+    record { answer = rw (answer-image r row e h); mark = rw (mark-image r row e); under = begun-image r row e }
+
+pub begun-small : (k : ℕ) → begunNumber k ≤ 1
+unfolding begunNumber
+begun-small k = if-case (λ (n : ℕ). n ≤ 1) (λ e. omega arith) (λ e. if-case (λ (n : ℕ). n ≤ 1) (λ f. omega arith) (λ f. omega arith))

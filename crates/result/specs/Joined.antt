@@ -1,12 +1,11 @@
 -- Fields written one behind another, and what is written a second time.
-use mathlib.Core.Path.{_≡_, refl, sym, ap, _∙_}
-use mathlib.Core.List.{List, [], _∷_, _++_}
-use Prim.Native.Nat.{ℕ, suc, _+_, _≤_}
+use mathlib.Core.Path.{_≡_, sym, ap, _∙_}
+use mathlib.Core.List.{List, _++_}
+use Prim.Native.Nat.{ℕ, _+_, _≤_}
 use native.Mathlib.Omega.{arith}
-use lib.ListN.{length, set, length-append}
-use lib.Seq.{set-set}
+use lib.ListN.{length, length-append}
 use Rattle.wire.specs.Over.{over}
-use Rattle.wire.specs.OverLaws.{over-over, over-swap}
+use Rattle.wire.specs.OverLaws.{over-over, over-swap, over-again}
 
 module _ {s₁ s₂ s₃ : List ℕ} (s x y z : List ℕ) (at b d : ℕ) where
   pub three
@@ -37,17 +36,7 @@ module _ {s₁ s₂ s₃ : List ℕ} (s x y z : List ℕ) (at b d : ℕ) where
 pub over-before : (s x y : List ℕ) (a b : ℕ) → b ≡ a + length x → over (over s b y) a x ≡ over s a (x ++ y)
 over-before s x y a b e = over-swap x y s a b (omega arith) ∙ over-over x y s a b e
 
--- what is written over again
-again : (y z s : List ℕ) (b : ℕ) → length y ≤ length z → over (over s b y) b z ≡ over s b z
-unfolding over
-again [] z s b h = refl
-again (v ∷ y) [] s b h = absurd (omega arith)
-again (v ∷ y) (w ∷ z) s b h =
-    ap (λ (l : List ℕ). over l (suc b) z)
-    (over-swap (w ∷ []) y (set s b v) b (suc b) (omega arith) ∙ ap (λ (l : List ℕ). over l (suc b) y) (set-set s b v w))
-    ∙ again y z (set s b w) (suc b) (omega arith)
-
 -- the end of what was written, written anew
 pub renewed : (s x y z : List ℕ) (at b : ℕ) → b ≡ at + length x → length y ≤ length z → over (over s at (x ++ y)) b z ≡ over s at (x ++ z)
 renewed s x y z at b e h =
-    ap (λ (l : List ℕ). over l b z) (sym (over-over x y s at b e)) ∙ again y z (over s at x) b h ∙ over-over x z s at b e
+    ap (λ (l : List ℕ). over l b z) (sym (over-over x y s at b e)) ∙ over-again y z (over s at x) b h ∙ over-over x z s at b e

@@ -1,6 +1,6 @@
--- Lines of the log as bytes: how long they are, and what is read where they stand.
+-- Lines of the log as bytes: what is read where they stand.
 use mathlib.Core.Path.{_≡_, refl, sym, ap, ap₂, _∙_}
-use mathlib.Core.List.{List, [], _∷_, _++_, append-assoc}
+use mathlib.Core.List.{List, [], _∷_, _++_}
 use Prim.Native.Nat.{ℕ, zero, suc, _+_, _*_, _≤_, _<_}
 use native.Mathlib.Omega.{arith}
 use lib.ListN.{length, getD}
@@ -9,26 +9,12 @@ use Rattle.spec.specs.Bytes.{byte, word, two}
 use Rattle.spec.specs.Result.{Line, lineSize, lineBytes}
 use Rattle.spec.specs.Proper.{Each}
 use Rattle.laws.specs.Tools.{first, rest}
-use Rattle.laws.specs.Codec.Tools.{every}
-use Rattle.laws.specs.Codec.Parts.{length-each}
+use Rattle.laws.specs.Codec.Numbers.{word-two}
+use Rattle.laws.specs.Codec.Sizes.{length-line, length-lines}
 use Rattle.wire.specs.Over.{over}
 use Rattle.wire.specs.OverLaws.{length-over, over-over}
-use Rattle.wire.specs.Reads.{word-over, word-two}
+use Rattle.wire.specs.Reads.{word-over}
 use Rattle.result.specs.Lines.{lineIn, linesIn}
-
-pub each-join : {A : Type 0} (f : A → List ℕ) (xs ys : List A) → each f (xs ++ ys) ≡ each f xs ++ each f ys
-unfolding each
-each-join f [] ys = refl
-each-join f (x ∷ xs) ys = rw (each-join f xs ys) (sym (append-assoc (f x) (each f xs) (each f ys)))
-
-pub length-line : (l : Line) → length (lineBytes l) ≡ lineSize
-unfolding lineBytes two
-length-line l = refl
-
-pub length-lines : (ls : List Line) → length (each lineBytes ls) ≡ lineSize * length ls
-length-lines ls = length-each lineBytes lineSize ls (every length-line ls)
-
--- ---- what is read
 
 pub lines-count : (s : List ℕ) (p n : ℕ) → length (linesIn s p n) ≡ n
 unfolding linesIn

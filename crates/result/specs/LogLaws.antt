@@ -14,7 +14,7 @@ use Rattle.spec.specs.Code.{notYet}
 use Rattle.spec.specs.State.{Row}
 use Rattle.spec.specs.Result.{Line, isAt, linesAt, linesFrom}
 use Rattle.spec.specs.Proper.{Each, end, next}
-use Rattle.laws.specs.Tools.{if-case, if-true, if-false, each-append, each-at, each-map}
+use Rattle.laws.specs.Tools.{if-case, if-true, if-false, each-append, each-at, each-imp}
 use Rattle.laws.specs.Codec.Tools.{each-imp₂ as each-both}
 use Rattle.laws.specs.Turns.Log.{Marked, marked, unmarked}
 use Rattle.result.specs.Lines.{line, seat, placed}
@@ -74,15 +74,15 @@ from-moment : (n t : ℕ) (rs : List Row) → Each (λ l. t ≤ l .moment) (line
 unfolding linesFrom
 from-moment zero t rs = end
 from-moment (suc n) t rs =
-    each-append (linesAt t rs 0) _ (each-map (λ l e. omega arith) (at-moment t rs 0))
-    (each-map (λ l h. omega arith) (from-moment n (suc t) rs))
+    each-append (linesAt t rs 0) _ (each-imp (λ l e. omega arith) (at-moment t rs 0))
+    (each-imp (λ l h. omega arith) (from-moment n (suc t) rs))
 
 -- the numbers in the lines
 at-op : (t : ℕ) (rs : List Row) (i : ℕ) → Each (λ l. l .op < i + length rs) (linesAt t rs i)
 unfolding linesAt
 at-op t [] i = end
 at-op t (r ∷ rs) i =
-    let ih : Each (λ l. l .op < i + suc (length rs)) (linesAt t rs (suc i)) = each-map (λ l h. omega arith) (at-op t rs (suc i)) in
+    let ih : Each (λ l. l .op < i + suc (length rs)) (linesAt t rs (suc i)) = each-imp (λ l h. omega arith) (at-op t rs (suc i)) in
     if-case (Each (λ l. l .op < i + suc (length rs))) (λ u. next (omega arith) ih) (λ u. ih)
 
 pub from-small : (n t : ℕ) (rs : List Row) → Each (λ l. (l .moment < t + n) × (l .op < length rs)) (linesFrom n t rs)
@@ -91,7 +91,7 @@ from-small zero t rs = end
 from-small (suc n) t rs =
     each-append (linesAt t rs 0) _
     (each-both (λ l e h. (omega arith, omega arith)) (at-moment t rs 0) (at-op t rs 0))
-    (each-map (λ l h. (omega (arith, h .0), h .1)) (from-small n (suc t) rs))
+    (each-imp (λ l h. (omega (arith, h .0), h .1)) (from-small n (suc t) rs))
 
 -- no operations, no lines
 pub log-none : (n t : ℕ) → linesFrom n t [] ≡ []
@@ -126,7 +126,7 @@ now-between n t rs r m =
       made =
           rw (at-hit t rs r 0 m, z, from-miss n (suc t) rs r (λ u h k q. let e : u ≡ t = sym (q .moment) ∙ m .moment in omega arith))
           (append-snoc (linesAt t rs 0) _ (linesFrom n (suc t) rs));
-      low = each-map (λ l e. omega arith) (at-moment t rs 0);
+      low = each-imp (λ l e. omega arith) (at-moment t rs 0);
       high = from-moment n (suc t) rs;
     }
 
@@ -143,7 +143,7 @@ later-between n t rs r u h m late b =
       back = b .back;
       whole = rw (b .whole) (sym (append-assoc (linesAt t rs 0) (b .front) (b .back)));
       made = rw (at-miss t rs r 0 m, b .made) (sym (append-assoc (linesAt t rs 0) (b .front) (h ∷ b .back)));
-      low = each-append (linesAt t rs 0) (b .front) (each-map (λ l e. omega arith) (at-moment t rs 0)) (b .low);
+      low = each-append (linesAt t rs 0) (b .front) (each-imp (λ l e. omega arith) (at-moment t rs 0)) (b .low);
       high = b .high;
     }
 

@@ -20,7 +20,7 @@ use Rattle.spec.specs.File.{File}
 use Rattle.spec.specs.Check.{workSize}
 use Rattle.spec.specs.Result.{toldOf, answerBytes, answersOffset, underWay, countUnder, resultOf, encodeResult}
 use Rattle.laws.specs.Tools.{if-case}
-use Rattle.laws.specs.Codec.Sizes.{length-result}
+use Rattle.laws.specs.Codec.Sizes.{length-answers, length-result}
 use Rattle.wire.specs.Over.{over}
 use Rattle.wire.specs.OverLaws.{length-over, over-none, over-over, over-parts, drop-over}
 use Rattle.wire.specs.Reads.{Apart, byte-over-other, word-put, word-over-other}
@@ -30,7 +30,6 @@ use Rattle.memory.specs.Places.{place-from}
 use Rattle.memory.specs.Beside.{Beside, used-kept, entry-kept, part-kept}
 use Rattle.result.specs.Marks.{markNumber, markOf, markPlace, Tells}
 use Rattle.result.specs.Finish.{FileShown, Ready, Finished}
-use Rattle.result.specs.FinishLaws.{length-answers}
 
 -- the bytes of the marks: those of the turns of changes
 abbrev pub marksSize : ℕ

@@ -10,10 +10,9 @@ ghost use Rattle.spec.specs.File.{File};
 ghost use Rattle.spec.specs.Encode.{headerBytes, encodeFile};
 ghost use Rattle.spec.specs.Check.{workSize};
 ghost use Rattle.spec.specs.Result.{Result, resultOf, lineBytes, resultHeader};
-ghost use Rattle.spec.specs.State.{Row as State-Row, State};
+ghost use Rattle.spec.specs.State.{State};
 ghost use Rattle.wire.specs.Over.{over};
-ghost use Rattle.turn.specs.Rows.{rowImage};
-ghost use Rattle.result.specs.Marks.{markNumber, begunNumber, Tells};
+ghost use Rattle.result.specs.Marks.{markNumber, begunNumber, withAnswer, withMark};
 ghost use Rattle.result.specs.Lines.{line, withLine, LogWritten};
 ghost use Rattle.result.specs.Finish.{Heads, fileHeader, fileSize, FileShown, Ready, Finished};
 
@@ -59,10 +58,10 @@ fn begun(stage: u16) -> usize
     1
 }
 
-// Operation i is told: its answer in the result, and its mark in the working memory.
+// Operation i is told: its answer in the result, and its mark in the working memory; 1 where it is begun but unfinished.
 pub fn tell(row: Row, i: usize, result: &mut [u8], work: &mut [u8]) -> usize
     requires { ⌜ (i < 256) × (32 + 8 * i ≤ length (now result)) × (workSize ≤ length (now work)) ⌝ }
-    ensures { λ v. ⌜ (v ≤ 1) × ((r : State-Row) → rowImage r ≡ row → r .code < 256 → Tells r i (now (result .entry)) (now (result .exit)) (now (work .entry)) (now (work .exit)) v) ⌝ }
+    ensures { λ v. ⌜ (v ≡ begunNumber (row .stage)) × (now (result .exit) ≡ withAnswer row i (now (result .entry))) × (now (work .exit) ≡ withMark row i (now (work .entry))) ⌝ }
 {
     put_answer(result, ANSWERS + 8 * i, row);
     wire::put_u16(work, MARKS + 2 * i, mark(row));

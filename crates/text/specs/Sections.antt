@@ -1,6 +1,6 @@
 -- A section that is written part by part: what one more part adds to the text.
-use mathlib.Core.Path.{_≡_, sym, ap, _∙_}
-use mathlib.Core.List.{List, [], _∷_, _++_, map, append-assoc, append-nil, map-append}
+use mathlib.Core.Path.{_≡_, ap, _∙_}
+use mathlib.Core.List.{List, [], _∷_, _++_, map, map-append}
 use Prim.Native.Nat.{ℕ, zero, suc, _+_, _-_, _*_, _≤_, _<_}
 use native.Mathlib.Nat.{mul-zero, add-sub-cancel-left, mul-le-mul-left}
 use native.Mathlib.Numerals.{add-one}
@@ -9,6 +9,7 @@ use lib.ListN.{length, take, drop, length-drop}
 use lib.Seq.{take-all, drop-drop}
 use Rattle.spec.specs.Basics.{each}
 use Rattle.spec.specs.Bytes.{parts}
+use Rattle.laws.specs.Codec.Parts.{each-snoc}
 
 -- places: the next part, and a part that lies within
 pub one-more : (size i : ℕ) → size * (i + 1) ≡ size * i + size
@@ -40,12 +41,7 @@ next-part (suc n) size b =
 pub parts-more : (n size : ℕ) (b : List ℕ) → parts (n + 1) size b ≡ parts n size b ++ (take size (drop (size * n) b) ∷ [])
 parts-more n size b = rw add-one (next-part n size b)
 
-each-last : {A : Type 0} (f : A → List ℕ) (xs : List A) (x : A) → each f (xs ++ (x ∷ [])) ≡ each f xs ++ f x
-unfolding each
-each-last f [] x = append-nil (f x)
-each-last f (y ∷ xs) x = rw (each-last f xs x) (sym (append-assoc (f y) (each f xs) (f x)))
-
 pub each-more
     : {A : Type 0} (f : A → List ℕ) (dec : List ℕ → A) (n size : ℕ) (b : List ℕ)
     → each f (map dec (parts (n + 1) size b)) ≡ each f (map dec (parts n size b)) ++ f (dec (take size (drop (size * n) b)))
-each-more f dec n size b = rw (parts-more n size b, map-append) (each-last f (map dec (parts n size b)) (dec (take size (drop (size * n) b))))
+each-more f dec n size b = rw (parts-more n size b, map-append) (each-snoc f (map dec (parts n size b)) (dec (take size (drop (size * n) b))))

@@ -5,7 +5,7 @@ use Prim.Native.Nat.{ℕ, suc, _+_, _-_, _≤_, _<_}
 use native.Mathlib.Omega.{arith}
 use Rattle.spec.specs.Basics.{if}
 use Rattle.spec.specs.Key.{bit}
-use Rattle.key.specs.Cases.{if-case, if-true, if-false}
+use Rattle.laws.specs.Tools.{if-case, if-true, if-false}
 use Rattle.turn.specs.Steps.{entryBit, lastOne}
 
 -- the next split: after it the entry's page is `last`

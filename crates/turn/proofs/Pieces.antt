@@ -9,11 +9,11 @@ use Rattle.spec.specs.declared.Op.{Op}
 use Rattle.spec.specs.Key.{index}
 use Rattle.spec.specs.Split.{digit, splitCount}
 use Rattle.spec.specs.Turn.{recOf}
-use Rattle.key.specs.Cases.{if-case}
-use Rattle.key.specs.Index.{index-lt}
-use Rattle.page.specs.declared.Piece.{Piece}
-use Rattle.page.specs.Piece.{keptPiece, ownPiece, sidePiece, cut}
-use Rattle.page.specs.Parts.{grow-old}
+use Rattle.laws.specs.Tools.{if-case}
+use Rattle.laws.specs.Key.{index-lt}
+use Rattle.pieces.specs.declared.Piece.{Piece}
+use Rattle.pieces.specs.Piece.{keptPiece, ownPiece, sidePiece, cut}
+use Rattle.pieces.specs.Parts.{grow-old}
 use Rattle.memory.specs.declared.Shape.{Shape}
 use Rattle.memory.specs.Memory.{pageIn}
 use Rattle.turn.specs.Steps.{plan, behind}

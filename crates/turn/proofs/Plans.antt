@@ -1,24 +1,15 @@
 -- The numbers of a planned split.
-use mathlib.Core.Path.{sym, _∙_}
 use mathlib.Core.List.{List}
 use Prim.Native.Nat.{ℕ, _+_, _≤_, _<_}
 use native.Mathlib.Omega.{arith}
-use Rattle.spec.specs.declared.Rec.{Rec}
 use Rattle.spec.specs.declared.Op.{Op}
 use Rattle.spec.specs.File.{Page}
-use Rattle.spec.specs.Split.{leastShared, splitCount}
-use Rattle.spec.specs.Proper.{In}
-use Rattle.laws.specs.Tools.{each-map}
-use Rattle.page.specs.Least.{least-le, least-most}
-use Rattle.page.specs.Splits.{Splits}
+use Rattle.spec.specs.Split.{splitCount}
+use Rattle.pieces.specs.Least.{least-le}
+use Rattle.pieces.specs.Parts.{least-deep}
 use Rattle.memory.specs.declared.Shape.{Shape}
 use Rattle.memory.specs.Memory.{pageIn}
 use Rattle.turn.specs.Safe.{Planned}
-
--- TEMPORARY COPY of page's Parts.least-deep, which is private there
-least-deep : {c : ℕ} {p : Page} {r : Rec} → Splits c p r → p .depth ≤ leastShared (p .records) (r .call)
-least-deep {p = p} {r = r} o =
-    least-most (p .records) (r .call) (p .depth) (o .deep) (each-map (λ a (e : In p (a .call)). e ∙ sym (o .home)) (o .homed))
 
 pub split-most : (p : Page) (k : ℕ) → splitCount p k ≤ 33
 unfolding splitCount

@@ -4,7 +4,7 @@ use Prim.Native.Nat.{ℕ, _≤_, _<_}
 use lib.Dec.{eqb, ltb, leb}
 use borrow.Author.Tests.{eq-eqb, ne-eqb, lt-ltb, le-ltb, le-leb, lt-leb}
 use Rattle.spec.specs.Basics.{if}
-use Rattle.key.specs.Cases.{if-true, if-false}
+use Rattle.laws.specs.Tools.{if-true, if-false}
 
 module _ {A : Type 0} (a b : ℕ) (x y : A) where
   pub if-eq : a ≡ b → if (eqb a b) x y ≡ x

@@ -1,15 +1,3 @@
 pub mod Rows
 pub mod Steps
-pub mod Shown
-pub mod RowBack
-pub mod Picture
-pub mod Steady
-pub mod Moves
-pub mod Reads
-pub mod Searching
-pub mod Holding
-pub mod Splitting
-pub mod Sim
-pub mod Begun
 pub mod Safe
-pub mod SafeTurns

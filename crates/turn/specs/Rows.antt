@@ -60,6 +60,10 @@ rowWith k used code charge moment =
       moment = moment;
     }
 
+-- "one fixed value, the same for every job, that stands for an operation not begun"
+abbrev pub blankRow : Row
+blankRow = rowWith (numbers 0 0 0 0 0) 0 0 0 0
+
 -- the row of numbers of an operation's row in the machine
 unfoldable pub rowImage : State-Row → Row
 rowImage r = rowWith (stageNumbers (r .stage)) (r .used) (r .code) (r .charge) (r .moment)

@@ -18,7 +18,7 @@ use Rattle.spec.specs.Check.{workSize}
 use Rattle.spec.specs.File.{findIn}
 use Rattle.spec.specs.Split.{leastShared, splitCount}
 use Rattle.spec.specs.Turn.{recOf}
-use Rattle.page.specs.Splits.{Splits}
+use Rattle.pieces.specs.Splits.{Splits}
 use Rattle.memory.specs.declared.Shape.{Shape}
 use Rattle.memory.specs.Memory.{pageIn}
 use Rattle.turn.specs.declared.Row.{Row}

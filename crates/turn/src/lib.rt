@@ -10,10 +10,12 @@ use memory::Shape;
 use spec::Op;
 use spec::Stage;
 ghost use mathlib.Core.Path.{_≡_};
+ghost use Rattle.turn.specs.Rows.{blankRow};
 ghost use Rattle.turn.specs.Steps.{out, memStep};
 ghost use Rattle.turn.specs.Safe.{Safe};
 
 // An operation's row: its stage in numbers, its turns used, and its answer. Each number is below 16,385 but the charge, which has 32 bits.
+#[repr(C)]
 pub struct Row {
     pub charge: u32,
     pub stage: u16,
@@ -27,6 +29,23 @@ pub struct Row {
 }
 
 impl Row {
+    // "one fixed value, the same for every job, that stands for an operation not begun"
+    pub fn blank() -> Row
+        ensures { λ r. ⌜ r ≡ blankRow ⌝ }
+    {
+        Row {
+            charge: 0,
+            stage: 0,
+            page: 0,
+            base: 0,
+            count: 0,
+            next: 0,
+            used: 0,
+            code: 0,
+            moment: 0,
+        }
+    }
+
     // "One turn is one step of the operation it names": the operation is handed in and comes back moved on, on turn t.
     pub fn step(mut self, shape: Shape, op: Op, t: u16, work: &mut [u8]) -> Row
         requires { ⌜ Safe shape op self (now work) ⌝ }

@@ -21,7 +21,7 @@ fn first_changed(shape: Shape, op: Op, x: u16, n: u16, work: &[u8]) -> u16
     ensures { λ r. ⌜ r ≡ behind (shape .depth) (plan shape op (now (work .entry)) x .old) ⌝ }
 {
     let d = memory::page_depth(work, shape.capacity, x);
-    let q = page::old_piece(op.call, d, n as usize);
+    let q = pieces::old_piece(op.call, d, n as usize);
     entries::behind(shape.depth, q.depth, q.pattern) as u16
 }
 

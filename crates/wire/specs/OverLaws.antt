@@ -1,4 +1,4 @@
--- Laws of `over`: its length, what is read at the place and elsewhere, one write behind another or apart from it, and parts.
+-- Laws of `over`: its length, what is read at the place and elsewhere, one write behind another, apart from it or over it, and parts.
 use mathlib.Core.Path.{_≡_, refl, sym, ap, _∙_}
 use mathlib.Core.List.{List, [], _∷_, _++_, append-assoc, append-nil}
 use Prim.Native.Nat.{ℕ, suc, _+_, _/_, _%_, _≤_, _<_}
@@ -6,7 +6,7 @@ use native.Mathlib.Nat.{le-of-lt}
 use native.Mathlib.Numerals.{add-one}
 use native.Mathlib.Omega.{arith}
 use lib.ListN.{length, getD, set, take, drop}
-use lib.Seq.{sets, length-sets, sets-eq, set-comm, take-set-le, drop-set-lt, take-suc, length-take-le, drop-length}
+use lib.Seq.{sets, length-sets, sets-eq, set-comm, set-set, take-set-le, drop-set-lt, take-suc, length-take-le, drop-length}
 use Rattle.spec.specs.Bytes.{two, four}
 use Rattle.wire.specs.Over.{over}
 
@@ -58,6 +58,16 @@ unfolding over
 over-swap [] y s a b h = refl
 over-swap (v ∷ x) y s a b h =
     ap (λ (l : List ℕ). sets l (suc a) x) (set-over y s a b v (omega arith)) ∙ over-swap x y (set s a v) (suc a) b (omega arith)
+
+-- what is written over again
+pub over-again : (y z s : List ℕ) (at : ℕ) → length y ≤ length z → over (over s at y) at z ≡ over s at z
+unfolding over
+over-again [] z s at h = refl
+over-again (v ∷ y) [] s at h = absurd (omega arith)
+over-again (v ∷ y) (w ∷ z) s at h =
+    ap (λ (l : List ℕ). over l (suc at) z)
+    (over-swap (w ∷ []) y (set s at v) at (suc at) (omega arith) ∙ ap (λ (l : List ℕ). over l (suc at) y) (set-set s at v w))
+    ∙ over-again y z (set s at w) (suc at) (omega arith)
 
 -- ---- parts
 

@@ -1,31 +1,19 @@
--- A part of a slice, `take n (drop a s)`: what is read of it, how it comes back when it was lent, and what a write makes of it.
+-- A part of a slice, `take n (drop a s)`: how it comes back when it was lent, and what a write makes of it. (What is read of it: laws' Codec/Parts.)
 use mathlib.Core.Path.{_≡_, sym, _∙_}
-use mathlib.Core.Logic.{inl, inr}
 use mathlib.Core.List.{List, _++_}
 use Prim.Native.Nat.{ℕ, _+_, _≤_, _<_}
+use native.Mathlib.Nat.{add-assoc}
 use native.Mathlib.Omega.{arith}
 use lib.ListN.{length, take, drop, length-drop}
-use lib.Seq.{getD-take, getD-drop, length-take-le, drop-drop, ext-getD}
-use Rattle.spec.specs.Bytes.{byte, word, long}
+use lib.Seq.{length-take-le, drop-drop, ext-getD}
+use Rattle.spec.specs.Bytes.{byte}
+use Rattle.laws.specs.Codec.Parts.{byte-in}
 use Rattle.wire.specs.Over.{over}
 use Rattle.wire.specs.OverLaws.{length-over, over-parts}
-use Rattle.wire.specs.Reads.{Apart, byte-over, byte-over-other, word-same, long-same}
+use Rattle.wire.specs.Reads.{Apart, byte-over, byte-over-other, near}
 
 pub length-part : (s : List ℕ) (a n : ℕ) → a + n ≤ length s → length (take n (drop a s)) ≡ n
 length-part s a n h = length-take-le n (drop a s) (omega (arith, length-drop a s))
-
-pub byte-part : (s : List ℕ) (a n j : ℕ) → j < n → byte (take n (drop a s)) j ≡ byte s (a + j)
-unfolding byte
-byte-part s a n j h = getD-take n (drop a s) j 0 h ∙ getD-drop a s j 0
-
-add-up : (a p j : ℕ) → a + p + j ≡ a + (p + j)
-add-up a p j = omega arith
-
-pub word-part : (s : List ℕ) (a n p : ℕ) → p + 2 ≤ n → word (take n (drop a s)) p ≡ word s (a + p)
-word-part s a n p h = word-same (take n (drop a s)) s p (a + p) (λ j l. rw (add-up a p j) (byte-part s a n (p + j) (omega arith)))
-
-pub long-part : (s : List ℕ) (a n p : ℕ) → p + 4 ≤ n → long (take n (drop a s)) p ≡ long s (a + p)
-long-part s a n p h = long-same (take n (drop a s)) s p (a + p) (λ j l. rw (add-up a p j) (byte-part s a n (p + j) (omega arith)))
 
 -- a part that was lent comes back, with other bytes
 pub over-part : (s x : List ℕ) (a n : ℕ) → length x ≡ n → a + n ≤ length s → take a s ++ (x ++ drop n (drop a s)) ≡ over s a x
@@ -40,7 +28,7 @@ same-bytes x y n e f h = ext-getD 0 x y (e ∙ sym f) (λ j l. h j (omega arith)
 pub part-over : (s x : List ℕ) (a n : ℕ) → length x ≡ n → a + n ≤ length s → take n (drop a (over s a x)) ≡ x
 part-over s x a n e h =
     same-bytes (take n (drop a (over s a x))) x n (length-part (over s a x) a n (rw (length-over s a x) h)) e
-    (λ j l. byte-part (over s a x) a n j l ∙ byte-over x s a j (omega arith) (omega arith))
+    (λ j l. byte-in n a (over s a x) j l ∙ byte-over x s a j (omega arith) (omega arith))
 
 -- another part
 pub part-over-other
@@ -50,8 +38,24 @@ pub part-over-other
     → take n (drop k (over s at x)) ≡ take n (drop k s)
 part-over-other s x at k n f h =
     same-bytes (take n (drop k (over s at x))) (take n (drop k s)) n (length-part (over s at x) k n (rw (length-over s at x) f)) (length-part s k n f)
-    (λ j l. byte-part (over s at x) k n j l ∙ byte-over-other x s at (k + j) (beside h l) ∙ sym (byte-part s k n j l))
-  where
-    beside : {j : ℕ} → Apart k n at (length x) → j < n → Apart (k + j) 1 at (length x)
-    beside (inl h) l = inl (omega arith)
-    beside (inr h) l = inr (omega arith)
+    (λ j l. byte-in n k (over s at x) j l ∙ byte-over-other x s at (k + j) (near k at (length x) n j h l) ∙ sym (byte-in n k s j l))
+
+-- a part of a part
+pub part-part : (s : List ℕ) (a m j n : ℕ) → j + n ≤ m → a + m ≤ length s → take n (drop j (take m (drop a s))) ≡ take n (drop (a + j) s)
+part-part s a m j n h f =
+    same-bytes (take n (drop j (take m (drop a s)))) (take n (drop (a + j) s)) n
+    (length-part (take m (drop a s)) j n (omega (arith, length-part s a m f)))
+    (length-part s (a + j) n (omega arith))
+    (λ k l. byte-in n j (take m (drop a s)) k l ∙ byte-in m a s (j + k) (omega arith) ∙ rw (add-assoc a j k) at (sym (byte-in n (a + j) s k l)))
+
+-- a part of the bytes that were written
+pub part-inside
+    : (s x : List ℕ) (a j n : ℕ)
+    → j + n ≤ length x
+    → a + length x ≤ length s
+    → take n (drop (a + j) (over s a x)) ≡ take n (drop j x)
+part-inside s x a j n h f =
+    same-bytes (take n (drop (a + j) (over s a x))) (take n (drop j x)) n
+    (length-part (over s a x) (a + j) n (omega (arith, length-over s a x)))
+    (length-part x j n h)
+    (λ k l. byte-in n (a + j) (over s a x) k l ∙ rw (add-assoc a j k) (byte-over x s a (j + k) (omega arith) f) ∙ sym (byte-in n j x k l))

@@ -1,13 +1,15 @@
 -- What is read after bytes were written over others: at the place, and elsewhere.
 use mathlib.Core.Path.{_≡_, refl, _∙_}
 use mathlib.Core.Logic.{_⊎_, inl, inr}
-use mathlib.Core.List.{List, [], _∷_, _++_}
-use Prim.Native.Nat.{ℕ, zero, suc, _+_, _*_, _/_, _%_, _^_, _≤_, _<_}
+use mathlib.Core.List.{List, [], _∷_}
+use Prim.Native.Nat.{ℕ, zero, suc, _+_, _^_, _≤_, _<_}
+use native.Mathlib.Nat.{add-assoc}
 use native.Mathlib.Numerals.{add-one, add-two, add-three}
 use native.Mathlib.Omega.{arith}
 use lib.ListN.{length, set, length-set}
 use lib.Seq.{getD-set-same, getD-set-other, set-getD}
 use Rattle.spec.specs.Bytes.{byte, word, long, two, four}
+use Rattle.laws.specs.Codec.Numbers.{word-two, long-four, word-small, two-read, four-read}
 use Rattle.wire.specs.Over.{over}
 
 -- place k lies before n bytes at `at`, or behind them
@@ -64,24 +66,13 @@ pub long-over-other : (x s : List ℕ) (at k : ℕ) → Apart k 4 at (length x) 
 long-over-other x s at k h = long-same (over s at x) s k k (λ j l. byte-over-other x s at (k + j) (near k at (length x) 4 j h l))
 
 -- at the place: the number of the bytes written
-add-up : (at j k : ℕ) → at + j + k ≡ at + (j + k)
-add-up at j k = omega arith
-
 pub word-over : (x s : List ℕ) (at j : ℕ) → j + 2 ≤ length x → at + length x ≤ length s → word (over s at x) (at + j) ≡ word x j
-word-over x s at j h f = word-same (over s at x) x (at + j) j (λ k l. rw (add-up at j k) (byte-over x s at (j + k) (omega arith) f))
+word-over x s at j h f = word-same (over s at x) x (at + j) j (λ k l. rw (add-assoc at j k) (byte-over x s at (j + k) (omega arith) f))
 
 pub long-over : (x s : List ℕ) (at j : ℕ) → j + 4 ≤ length x → at + length x ≤ length s → long (over s at x) (at + j) ≡ long x j
-long-over x s at j h f = long-same (over s at x) x (at + j) j (λ k l. rw (add-up at j k) (byte-over x s at (j + k) (omega arith) f))
+long-over x s at j h f = long-same (over s at x) x (at + j) j (λ k l. rw (add-assoc at j k) (byte-over x s at (j + k) (omega arith) f))
 
 -- a number as bytes, read again
-pub word-two : (v : ℕ) (z : List ℕ) → v < 65536 → word (two v ++ z) 0 ≡ v
-unfolding word byte two
-word-two v z h = omega arith
-
-pub long-four : (v : ℕ) (z : List ℕ) → v < 2 ^ 32 → long (four v ++ z) 0 ≡ v
-unfolding long word byte four two
-long-four v z h = omega arith
-
 pub word-put : (s : List ℕ) (at v : ℕ) → at + 2 ≤ length s → v < 65536 → word (over s at (two v)) at ≡ v
 unfolding two
 word-put s at v f h =
@@ -97,35 +88,15 @@ long-put s at v f h =
 -- ---- bytes written where they stand change nothing
 
 -- this is where a byte's bound is used: the bytes of the number that stands at a place are the bytes there
-low : (a b : ℕ) → a < 256 → b < 256 → ((a + 256 * b) % 256 ≡ a) × ((a + 256 * b) / 256 % 256 ≡ b)
-low a b h k = (omega arith, omega arith)
-
-pub two-word : (s : List ℕ) (at : ℕ) → ((k : ℕ) → byte s k < 256) → two (word s at) ≡ byte s at ∷ byte s (at + 1) ∷ []
-unfolding two word
-two-word s at b = let e = low (byte s at) (byte s (at + 1)) (b at) (b (at + 1)) in rw (e .0, e .1)
-
-pub word-lt : (s : List ℕ) (at : ℕ) → ((k : ℕ) → byte s k < 256) → word s at < 65536
-unfolding word
-word-lt s at b = omega (arith, b at, b (at + 1))
-
-pub four-long
-    : (s : List ℕ) (at : ℕ)
-    → ((k : ℕ) → byte s k < 256)
-    → four (long s at) ≡ byte s at ∷ byte s (at + 1) ∷ byte s (at + 2) ∷ byte s (at + 3) ∷ []
-unfolding four long
-four-long s at b =
-    let e = halves (word s at) (word s (at + 2)) (word-lt s at b) (word-lt s (at + 2) b) in
-    let f : at + 2 + 1 ≡ at + 3 = omega arith in
-    rw (e .0, e .1, two-word s at b, two-word s (at + 2) b, f)
-  where
-    halves : (a c : ℕ) → a < 65536 → c < 65536 → ((a + 65536 * c) % 65536 ≡ a) × ((a + 65536 * c) / 65536 ≡ c)
-    halves a c h k = (omega arith, omega arith)
-
 pub over-long : (s : List ℕ) (at : ℕ) → ((k : ℕ) → byte s k < 256) → over s at (four (long s at)) ≡ s
 unfolding over byte
 over-long s at b =
+    let e : at + 2 + 1 ≡ at + 3 = omega arith in
     rw (
-      four-long s at b,
+      four-read s at (word-small s at (b at) (b (at + 1))),
+      two-read s at (b at) (b (at + 1)),
+      two-read s (at + 2) (b (at + 2)) (b (at + 2 + 1)),
+      e,
       add-one,
       add-two,
       add-three,

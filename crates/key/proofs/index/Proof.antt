@@ -2,7 +2,7 @@
 use mathlib.Core.Path.{_≡_}
 use Prim.Native.Nat.{_-_, _/_, _^_}
 use Rattle.spec.specs.Key.{firstBits, index}
-use Rattle.key.specs.Index.{index-lt}
+use Rattle.laws.specs.Key.{index-lt}
 use borrow.Author.Needs.{needs}
 use Rattle.key.proofs.index.Statement.{statement}
 use Rattle.key.proofs.index.Tie as tie

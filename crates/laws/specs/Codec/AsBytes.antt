@@ -1,8 +1,8 @@
--- What is written of a proper job is a byte string: every number in it is below 256.
+-- Byte strings: every number in them is below 256. What is written of a proper job is one.
 use Prim.Native.Nat.{ℕ, zero, suc, _-_, _*_, _/_, _%_, _<_, _≤_}
 use mathlib.Core.List.{List, [], _∷_, _++_}
 use native.Mathlib.Omega.{arith}
-use lib.ListN.{length, replicate}
+use lib.ListN.{length, getD, replicate}
 use Rattle.spec.specs.declared.Kind.{Kind}
 use Rattle.spec.specs.declared.Kind.the-variants.{Search, Insert, Delete}
 use Rattle.spec.specs.declared.Rec.{Rec}
@@ -13,8 +13,14 @@ use Rattle.spec.specs.File.{Page}
 use Rattle.spec.specs.Job.{Job, Header, kindNumber, recordSize, maxDepth, maxCapacity}
 use Rattle.spec.specs.Encode.{headerBytes, recordBytes, pageBytes, opBytes, headerFor, encodeJob}
 use Rattle.spec.specs.Proper.{Each, end as eachEnd, next as eachNext, PageOk}
-use Rattle.laws.specs.Codec.Tools.{every, each-imp}
+use Rattle.laws.specs.Tools.{each-imp}
+use Rattle.laws.specs.Codec.Tools.{every}
 use Rattle.laws.specs.Codec.Proper.{JobProper, pages-proper}
+
+-- a byte string, by its places
+pub are-bytes : (b : List ℕ) → ((k : ℕ) → getD b k 0 < 256) → AreBytes b
+are-bytes [] h = end
+are-bytes (x ∷ b) h = next (h 0) (are-bytes b (λ k. h (suc k)))
 
 infixl 60 _and_
 _and_ : {x y : List ℕ} → AreBytes x → AreBytes y → AreBytes (x ++ y)

@@ -14,7 +14,8 @@ use Rattle.spec.specs.Job.{Job, Header, kindNumber, kindOf}
 use Rattle.spec.specs.Encode.{headerBytes, recordBytes, pageBytes, opBytes, headerFor, encodeJob}
 use Rattle.spec.specs.Decode.{headerOf, numberOf, recordOf, pageOf, opOf, fileOf, jobOf}
 use Rattle.spec.specs.Proper.{Each, end, next}
-use Rattle.laws.specs.Codec.Tools.{every, each-imp}
+use Rattle.laws.specs.Tools.{each-imp}
+use Rattle.laws.specs.Codec.Tools.{every}
 use Rattle.laws.specs.Codec.Parts.{parts-each}
 use Rattle.laws.specs.Codec.Numbers.{word-two, long-four}
 use Rattle.laws.specs.Codec.Sections.{length-record, Sized, headOf, header-first, entries-written, pages-written, ops-written, turns-written}
@@ -58,7 +59,7 @@ record-back : (r : Rec) → RecFits r → recordOf (recordBytes r) ≡ r
 unfolding recordOf recordBytes long word byte four two
 record-back r h = λ i. record { call = long-four (r .call) [] (h .call) i; charge = long-four (r .charge) [] (h .charge) i }
 
-map-back : {A : Type 0} (dec : List ℕ → A) (enc : A → List ℕ) {xs : List A} → Each (λ x. dec (enc x) ≡ x) xs → map dec (map enc xs) ≡ xs
+pub map-back : {A : Type 0} (dec : List ℕ → A) (enc : A → List ℕ) {xs : List A} → Each (λ x. dec (enc x) ≡ x) xs → map dec (map enc xs) ≡ xs
 map-back dec enc end = refl
 map-back dec enc (next e es) = ap₂ _∷_ e (map-back dec enc es)
 

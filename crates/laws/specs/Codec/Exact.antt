@@ -13,7 +13,8 @@ use Rattle.spec.specs.Encode.{encodeJob}
 use Rattle.spec.specs.Decode.{headerOf, pageParts, opParts, recordOf, pageOf, opOf, fileOf, jobOf}
 use Rattle.spec.specs.Check.{wrongOp, jobFault}
 use Rattle.spec.specs.Proper.{Each}
-use Rattle.laws.specs.Codec.Tools.{each-imp, each-imp₂, each-map, each-places}
+use Rattle.laws.specs.Tools.{each-imp}
+use Rattle.laws.specs.Codec.Tools.{each-imp₂, each-map, each-places}
 use Rattle.laws.specs.Codec.Numbers.{drop-bytes, parts-bytes, long-lt}
 use Rattle.laws.specs.Codec.Rows.{Rows, accepted-rows, limits-said, counted}
 use Rattle.laws.specs.Codec.Pages.{length-pages, page-at}

@@ -12,7 +12,8 @@ use Rattle.spec.specs.Encode.{headerBytes, recordBytes, pageBytes, opBytes, hea
 use Rattle.spec.specs.Decode.{headerOf, entryParts, pageParts, opParts, turnParts, numberOf, recordOf, pageOf, opOf, fileOf, jobOf}
 use Rattle.spec.specs.Check.{wrongOp, jobFault}
 use Rattle.spec.specs.Proper.{Each}
-use Rattle.laws.specs.Codec.Tools.{each-imp, each-imp₂, each-places}
+use Rattle.laws.specs.Tools.{each-imp}
+use Rattle.laws.specs.Codec.Tools.{each-imp₂, each-places}
 use Rattle.laws.specs.Codec.Parts.{length-parts, each-parts}
 use Rattle.laws.specs.Codec.Numbers.{Whole, parts-whole, drop-bytes}
 use Rattle.laws.specs.Codec.Pieces.{Piece, _then_, all-of, two-bytes, two-word, four-long, zeros-piece}

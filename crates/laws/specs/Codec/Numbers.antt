@@ -1,9 +1,10 @@
--- Numbers in bytes: a number of 2 or 4 bytes that fits comes back, and what is read of bytes fits.
-use Prim.Native.Nat.{ℕ, zero, suc, _+_, _*_, _<_, _≤_}
+-- Numbers in bytes: a number of 2 or 4 bytes that fits comes back, and what is read of bytes fits and is written as these bytes.
+use Prim.Native.Nat.{ℕ, zero, suc, _+_, _*_, _/_, _%_, _<_, _≤_}
 use mathlib.Core.Path.{_≡_, refl}
 use mathlib.Core.List.{List, [], _∷_, _++_}
 use mathlib.Core.Bool.{true, and-eq-true-iff}
 use native.Mathlib.Omega.{arith}
+use native.Mathlib.Nat.{add-zero, add-comm, add-mul-mod-self-left, mod-eq-of-lt, mul-add-div, div-eq-of-lt}
 use lib.ListN.{length, take, drop, replicate}
 use Rattle.spec.specs.Bytes.{AreBytes, end, next, byte, word, long, two, four, parts, zeros}
 use Rattle.spec.specs.Proper.{Each, end as eachEnd, next as eachNext}
@@ -26,13 +27,32 @@ byte-lt [] end p = omega arith
 byte-lt (x ∷ b) (next h t) zero = h
 byte-lt (x ∷ b) (next h t) (suc p) = byte-lt b t p
 
-pub word-lt : (b : List ℕ) → AreBytes b → (p : ℕ) → word b p < 65536
+pub word-small : (b : List ℕ) (p : ℕ) → byte b p < 256 → byte b (p + 1) < 256 → word b p < 65536
 unfolding word
-word-lt b h p = let s = byte-lt b h p in let t = byte-lt b h (p + 1) in omega arith
+word-small b p s t = omega arith
+
+pub word-lt : (b : List ℕ) → AreBytes b → (p : ℕ) → word b p < 65536
+word-lt b h p = word-small b p (byte-lt b h p) (byte-lt b h (p + 1))
 
 pub long-lt : (b : List ℕ) → AreBytes b → (p : ℕ) → long b p < 4294967296
 unfolding long
 long-lt b h p = let s = word-lt b h p in let t = word-lt b h (p + 2) in omega arith
+
+-- the digits of a number to the base m
+pub low : (m a c : ℕ) → a < m → (a + m * c) % m ≡ a
+low m a c h = rw add-mul-mod-self-left (mod-eq-of-lt h)
+
+pub high : (m a c : ℕ) → a < m → (a + m * c) / m ≡ c
+high m a c h = rw (add-comm, mul-add-div {m = m} (omega arith), div-eq-of-lt h, add-zero)
+
+-- what is read of bytes is written as these bytes
+pub two-read : (b : List ℕ) (p : ℕ) → byte b p < 256 → byte b (p + 1) < 256 → two (word b p) ≡ byte b p ∷ byte b (p + 1) ∷ []
+unfolding two word
+two-read b p s t = rw (low 256 (byte b p) (byte b (p + 1)) s, high 256 (byte b p) (byte b (p + 1)) s, mod-eq-of-lt t)
+
+pub four-read : (b : List ℕ) (p : ℕ) → word b p < 65536 → four (long b p) ≡ two (word b p) ++ two (word b (p + 2))
+unfolding four long
+four-read b p s = rw (low 65536 (word b p) (word b (p + 2)) s, high 65536 (word b p) (word b (p + 2)) s)
 
 -- the parts of bytes are bytes
 take-bytes : (n : ℕ) (b : List ℕ) → AreBytes b → AreBytes (take n b)

@@ -37,11 +37,15 @@ pub pages-said
 unfolding pageFault
 pages-said h ps = simp (first-from-1, first-none (λ x. pageFault h (suc x)) ps [], when-none, page-fine) Iff·rfl
 
--- the page that is read
+-- the page that is read: as many records as its bytes count
+pub records-count : (p : List ℕ) → length (pageOf p .records) ≡ byte p 1
+unfolding pageOf
+records-count p = rw (length-map, length-parts)
+
 pub page-proper : {h : Header} {x : ℕ} {p : List ℕ} → PageFine h x p → RecordsOk (pageOf p) → PageOk (h .g) (h .c) (pageOf p)
 unfolding pageOf
 page-proper fine r =
-    record { deep = fine .deep; small = fine .small; room = rw (length-map, length-parts) (fine .count); homed = r .homed; once = r .once }
+    record { deep = fine .deep; small = fine .small; room = rw records-count (fine .count); homed = r .homed; once = r .once }
 
 pub zero-page : (p : List ℕ) → zeros p ≡ true → pageOf p ≡ zeroPage
 unfolding pageOf word parts

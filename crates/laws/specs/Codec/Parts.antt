@@ -2,7 +2,7 @@
 -- the parts come to.
 use Prim.Native.Nat.{ℕ, zero, suc, _+_, _*_, _<_, _≤_}
 use mathlib.Core.Path.{_≡_, refl, sym, ap, ap₂, _∙_}
-use mathlib.Core.List.{List, [], _∷_, _++_, map, append-assoc}
+use mathlib.Core.List.{List, [], _∷_, _++_, map, append-assoc, append-nil}
 use native.Mathlib.Omega.{arith}
 use native.Mathlib.Nat.{mul-zero, add-assoc}
 use lib.ListN.{length, getD, take, drop, length-append, length-drop}
@@ -52,7 +52,18 @@ parts-size (suc n) size b l =
     let m = next-place size n in
     next (length-take-le size b (omega arith)) (parts-size n size (drop size b) (rw length-drop (omega arith)))
 
--- what is written one behind another
+-- what is written one behind another: two lists of things, and one thing more
+module _ {A : Type 0} (enc : A → List ℕ) where
+  pub each-join : (xs ys : List A) → each enc (xs ++ ys) ≡ each enc xs ++ each enc ys
+  unfolding each
+  each-join [] ys = refl
+  each-join (x ∷ xs) ys = rw (each-join xs ys) (sym (append-assoc (enc x) (each enc xs) (each enc ys)))
+
+  pub each-snoc : (xs : List A) (x : A) → each enc (xs ++ (x ∷ [])) ≡ each enc xs ++ enc x
+  unfolding each
+  each-snoc xs x = each-join xs (x ∷ []) ∙ ap (λ y. each enc xs ++ y) (append-nil (enc x))
+
+-- things of one size
 module _ {A : Type 0} (enc : A → List ℕ) (size : ℕ) where
   pub length-each : (xs : List A) → Each (λ x. length (enc x) ≡ size) xs → length (each enc xs) ≡ size * length xs
   unfolding each

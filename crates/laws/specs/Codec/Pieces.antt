@@ -1,15 +1,14 @@
 -- Pieces of a byte string: what is read of some bytes and written again is those bytes, and pieces that stand one behind another are one piece.
-use Prim.Native.Nat.{ℕ, suc, _+_, _*_, _/_, _%_, _<_, _≤_}
+use Prim.Native.Nat.{ℕ, suc, _+_, _<_, _≤_}
 use mathlib.Core.Path.{_≡_, sym, ap₂, _∙_}
 use mathlib.Core.List.{List, [], _∷_, _++_}
 use mathlib.Core.Bool.{true}
 use native.Mathlib.Omega.{arith}
-use native.Mathlib.Nat.{add-zero, add-comm, add-mul-mod-self-left, mod-eq-of-lt, mul-add-div, div-eq-of-lt}
 use native.Mathlib.Numerals.{add-one}
 use lib.ListN.{length, getD, take, drop, replicate, length-replicate, getD-replicate}
 use lib.Seq.{drop-cons, take-add, take-all, drop-drop, ext-getD}
 use Rattle.spec.specs.Bytes.{AreBytes, byte, word, long, two, four, zeros}
-use Rattle.laws.specs.Codec.Numbers.{byte-lt, word-lt, zeros-byte}
+use Rattle.laws.specs.Codec.Numbers.{byte-lt, word-lt, two-read, four-read, zeros-byte}
 
 -- x is the n bytes of b from place p on
 pub record Piece (b x : List ℕ) (p n : ℕ) : Type 0 where
@@ -27,30 +26,16 @@ behind {b} {p = p} {n = n} {m = m} s t = record { same = ap₂ _++_ (s .same) (t
 pub all-of : {b x : List ℕ} {n : ℕ} → Piece b x 0 n → length b ≡ n → x ≡ b
 all-of {b} {n = n} s l = s .same ∙ take-all n b (omega arith)
 
--- the digits of a number to the base m
-low : (m a c : ℕ) → a < m → (a + m * c) % m ≡ a
-low m a c h = rw add-mul-mod-self-left (mod-eq-of-lt h)
-
-high : (m a c : ℕ) → a < m → (a + m * c) / m ≡ c
-high m a c h = rw (add-comm, mul-add-div {m = m} (omega arith), div-eq-of-lt h, add-zero)
-
 module _ (b : List ℕ) where
   pub two-bytes : (p : ℕ) → p + 2 ≤ length b → Piece b (byte b p ∷ byte b (p + 1) ∷ []) p 2
   unfolding byte
   two-bytes p l = record { same = rw (add-one, drop-cons b p 0 (omega arith), drop-cons b (suc p) 0 (omega arith)) }
 
   pub two-word : AreBytes b → (p : ℕ) → p + 2 ≤ length b → Piece b (two (word b p)) p 2
-  unfolding two word
-  two-word h p l =
-      let s = byte-lt b h p in
-      let t = byte-lt b h (p + 1) in
-      rw (low 256 (byte b p) (byte b (p + 1)) s, high 256 (byte b p) (byte b (p + 1)) s, mod-eq-of-lt t) (two-bytes p l)
+  two-word h p l = rw (two-read b p (byte-lt b h p) (byte-lt b h (p + 1))) (two-bytes p l)
 
   pub four-long : AreBytes b → (p : ℕ) → p + 4 ≤ length b → Piece b (four (long b p)) p 4
-  unfolding four long
-  four-long h p l =
-      let s = word-lt b h p in
-      rw (low 65536 (word b p) (word b (p + 2)) s, high 65536 (word b p) (word b (p + 2)) s) (behind (two-word h p (omega arith)) (two-word h (p + 2) (omega arith)))
+  four-long h p l = rw (four-read b p (word-lt b h p)) (behind (two-word h p (omega arith)) (two-word h (p + 2) (omega arith)))
 
 -- zeros
 pub zeros-piece : (b : List ℕ) (p n : ℕ) → length (drop p b) ≡ n → zeros (drop p b) ≡ true → Piece b (replicate n 0) p n

@@ -46,16 +46,21 @@ pub turn-there : (b : List ℕ) (t : ℕ) → t < headerOf b .turns → getD (jo
 unfolding jobOf numberOf word byte
 turn-there b t l = List·getD-map numberOf (turnParts (headerOf b) b) t [] ∙ ap numberOf (turn-part (headerOf b) b t l) ∙ number-there (turnPlace (headerOf b) t) b
 
+-- record i of a page
+pub record-part : (s : List ℕ) (i : ℕ) (d : Rec) → i < byte s 1 → getD (pageOf s .records) i d ≡ recordOf (take recordSize (drop (4 + recordSize * i) s))
+unfolding pageOf
+record-part s i d l =
+    getD-map recordOf (parts (byte s 1) 8 (drop 4 s)) i [] d (rw length-parts l) ∙ ap recordOf (part-place (byte s 1) 8 4 s i l)
+
 -- record r of the page of `size` bytes at p
 pub record-there
     : (size p : ℕ) (b : List ℕ) (r : ℕ) (d : Rec)
     → r < byte b (p + 1)
     → 4 + recordSize * suc r ≤ size
     → getD (pageOf (take size (drop p b)) .records) r d ≡ record { call = long b (recordPlace p r); charge = long b (recordPlace p r + 4) }
-unfolding pageOf recordOf recordPlace
+unfolding recordOf recordPlace
 record-there size p b r d counted inside =
-    getD-map recordOf (parts (byte page 1) 8 (drop 4 page)) r [] d (rw length-parts within)
-    ∙ ap recordOf (part-place (byte page 1) 8 4 page r within)
+    record-part page r d within
     ∙ (λ i. record { call = (field 0 (omega arith) ∙ ap (long b) (add-zero _)) i; charge = field 4 (omega arith) i })
   where
     page : List ℕ

@@ -11,7 +11,8 @@ use Rattle.spec.specs.declared.Op.{Op}
 use Rattle.spec.specs.File.{Page, File, zeroPage, pageAt}
 use Rattle.spec.specs.Job.{Job, maxOps, maxTurns}
 use Rattle.spec.specs.Proper.{Each, end, empty, PageNo, PageOk, FileOk}
-use Rattle.laws.specs.Codec.Tools.{each-imp, each-places}
+use Rattle.laws.specs.Tools.{each-imp}
+use Rattle.laws.specs.Codec.Tools.{each-places}
 use Rattle.laws.specs.Codec.InUse.{page-behind}
 use Rattle.laws.specs.Codec.Sections.{Sized, jobFor}
 use Rattle.laws.specs.Codec.Back.{RecFits, PageFits, OpFits, FileFits, JobFits}

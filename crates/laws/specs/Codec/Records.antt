@@ -1,21 +1,20 @@
 -- Row 8 as a property of a file: in every page in use, each call's pseudo key begins with the page's pattern, and no call is there twice.
 -- The row looks for the call among the records before it, `NoneTwice` among those behind it.
 use Prim.Native.Nat.{ℕ, zero, suc, _<_, _≤_}
-use mathlib.Core.Path.{_≡_, refl, sym}
+use mathlib.Core.Path.{_≡_, refl, sym, _∙_}
 use mathlib.Core.Logic.{_↔_, Iff·rfl}
 use mathlib.Core.List.{List, [], _∷_}
-use mathlib.Core.Bool.{Bool, true, false, true≢false}
+use mathlib.Core.Bool.{false, true≢false}
 use mathlib.Core.Option.{Option, none, some, Option·none-ne-some}
 use native.Mathlib.Omega.{arith}
 use lib.ListN.{length, getD, take}
-use lib.Dec.{eqb}
-use borrow.Author.Tests.{eqb-true, eqb-false}
 use Rattle.spec.specs.declared.Rec.{Rec}
-use Rattle.spec.specs.Basics.{if, isSome, firstOf}
+use Rattle.spec.specs.Basics.{isSome, firstOf}
 use Rattle.spec.specs.File.{Page, File, pageAt, pagesInUse, findIn}
 use Rattle.spec.specs.Job.{Header}
 use Rattle.spec.specs.Check.{badRecord, recordFault, recordFaultIn}
 use Rattle.spec.specs.Proper.{Each, NoneTwice, empty, more, In, PageNo}
+use Rattle.laws.specs.Turns.Records.{find-nil, find-miss, none-head, none-tail}
 use Rattle.laws.specs.Codec.Tools.{failed, each-places}
 use Rattle.laws.specs.Codec.Walk.{by-places, first-none}
 use Rattle.laws.specs.Codec.InUse.{first-in-use}
@@ -27,16 +26,7 @@ isSome-no (some x) = (λ e. absurd (true≢false e), λ e. absurd (Option·none-
 
 -- a call is not among the records
 find-cons : (r : Rec) (rs : List Rec) (k : ℕ) → findIn (r ∷ rs) k ≡ none ↔ (r .call ≡ k → ⊥) × (findIn rs k ≡ none)
-unfolding findIn if
-find-cons r rs k = by (eqb (r .call) k) refl
-  where
-    by : (t : Bool) → eqb (r .call) k ≡ t → if t (some r) (findIn rs k) ≡ none ↔ (r .call ≡ k → ⊥) × (findIn rs k ≡ none)
-    by true e = (λ q. absurd (Option·none-ne-some _ (sym q)), λ h. absurd (h .0 (eqb-true (r .call) k e)))
-    by false e = (λ q. (eqb-false (r .call) k e, q), λ h. h .1)
-
-find-nil : (k : ℕ) → findIn [] k ≡ none
-unfolding findIn
-find-nil k = refl
+find-cons r rs k = (λ q. (none-head r rs k q, none-tail r rs k q), λ h. find-miss r rs k (h .0) ∙ h .1)
 
 abbrev blank : Rec
 blank = record { call = 0; charge = 0 }

@@ -1,6 +1,6 @@
 -- What is written of a job, section by section: how long each thing is, where each section begins, and the parts that are found there.
 -- Asked of the job is only that directory, table and pages have their sizes (`Sized`).
-use Prim.Native.Nat.{ℕ, _^_, _≤_}
+use Prim.Native.Nat.{ℕ, _*_, _^_, _≤_}
 use mathlib.Core.Path.{_≡_, refl}
 use mathlib.Core.List.{List, [], _++_, map, append-assoc, append-nil}
 use native.Mathlib.Omega.{arith}
@@ -15,7 +15,8 @@ use Rattle.spec.specs.Job.{Job, Header, recordSize, pageSize, opSize, headerSiz
 use Rattle.spec.specs.Encode.{headerBytes, recordBytes, pageBytes, opBytes, headerFor, encodeJob}
 use Rattle.spec.specs.Decode.{entryParts, pageParts, opParts, turnParts}
 use Rattle.spec.specs.Proper.{Each}
-use Rattle.laws.specs.Codec.Tools.{every, each-imp}
+use Rattle.laws.specs.Tools.{each-imp}
+use Rattle.laws.specs.Codec.Tools.{every}
 use Rattle.laws.specs.Codec.Parts.{length-each, parts-each}
 
 -- widths
@@ -31,6 +32,9 @@ pub length-record : (r : Rec) → length (recordBytes r) ≡ recordSize
 unfolding recordBytes four two
 length-record r = refl
 
+pub length-records : (rs : List Rec) → length (each recordBytes rs) ≡ recordSize * length rs
+length-records rs = length-each recordBytes recordSize rs (every length-record rs)
+
 length-op : (o : Op) → length (opBytes o) ≡ opSize
 unfolding opBytes four two
 length-op o = refl
@@ -38,10 +42,10 @@ length-op o = refl
 pub length-page : (c : ℕ) (p : Page) → length (p .records) ≤ c → length (pageBytes c p) ≡ pageSize c
 unfolding pageBytes two
 length-page c p l =
-    rw (length-append, length-each recordBytes 8 (p .records) (every length-record (p .records)), length-replicate) (omega arith)
+    rw (length-append, length-records, length-replicate) (omega arith)
 
 -- a section of b: the things xs, written one behind another, that stand behind `before`
-section
+pub section
     : {A : Type 0} (enc : A → List ℕ) (size : ℕ) {n at : ℕ} {xs : List A} {b : List ℕ} (before after : List ℕ)
     → Each (λ x. length (enc x) ≡ size) xs
     → length xs ≡ n

@@ -1,6 +1,7 @@
 -- How long the written things are: a job, a charge file, a result.
 use Prim.Native.Nat.{ℕ, _+_, _*_, _^_, _≤_}
 use mathlib.Core.Path.{_≡_, refl}
+use mathlib.Core.List.{List}
 use native.Mathlib.Omega.{arith}
 use native.Mathlib.Nat.{mul-le-mul}
 use lib.ListN.{length, length-append}
@@ -35,24 +36,24 @@ unfolding encodeFile fileLength total turnsOffset headerFor
 length-file f ok = let e = length-job (jobFor f) (file-sized f ok) in omega arith
 
 -- a result: 24 bytes, 8 an answer, 4 a line of the log, and the charge file
-length-answer : (a : Told) → length (answerBytes a) ≡ answerSize
+pub length-answer : (a : Told) → length (answerBytes a) ≡ answerSize
 unfolding answerBytes two four
 length-answer a = refl
 
-length-line : (l : Line) → length (lineBytes l) ≡ lineSize
+pub length-line : (l : Line) → length (lineBytes l) ≡ lineSize
 unfolding lineBytes two
 length-line l = refl
 
-length-result-header : (r : Result) (n : ℕ) → length (resultHeader r n) ≡ answersOffset
+pub length-result-header : (r : Result) (n : ℕ) → length (resultHeader r n) ≡ answersOffset
 unfolding resultHeader two four
 length-result-header r n = refl
 
+pub length-answers : (xs : List Told) → length (each answerBytes xs) ≡ answerSize * length xs
+length-answers xs = length-each answerBytes answerSize xs (every length-answer xs)
+
+pub length-lines : (ls : List Line) → length (each lineBytes ls) ≡ lineSize * length ls
+length-lines ls = length-each lineBytes lineSize ls (every length-line ls)
+
 pub length-result : (r : Result) → length (encodeResult r) ≡ 24 + 8 * length (r .answers) + 4 * length (r .log) + length (fileBytes (r .file))
 unfolding encodeResult
-length-result r = rw (length-append, length-append, length-append, length-result-header, answers, lines)
-  where
-    answers : length (each answerBytes (r .answers)) ≡ 8 * length (r .answers)
-    answers = length-each answerBytes 8 (r .answers) (every length-answer (r .answers))
-
-    lines : length (each lineBytes (r .log)) ≡ 4 * length (r .log)
-    lines = length-each lineBytes 4 (r .log) (every length-line (r .log))
+length-result r = rw (length-append, length-append, length-append, length-result-header, length-answers, length-lines)

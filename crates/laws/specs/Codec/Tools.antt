@@ -13,6 +13,7 @@ use borrow.Author.Tests.{ltb-true, ltb-false, leb-false, eqb-true, eqb-false, no
 use Rattle.spec.specs.Basics.{when, orElse, among}
 use Rattle.spec.specs.Check.{outside, numbered, firstRow}
 use Rattle.spec.specs.Proper.{Each, end, next}
+use Rattle.laws.specs.Tools.{first, rest, each-at}
 
 -- tests
 pub or-no : (a b : Bool) → (a || b) ≡ false ↔ (a ≡ false) × (b ≡ false)
@@ -104,27 +105,15 @@ module _ {A : Type 0} where
   every h (x ∷ l) = next (h x) (every h l)
 
   pub each-cons : {P : A → Type 0} (x : A) (l : List A) → Each P (x ∷ l) ↔ P x × Each P l
-  each-cons {P} x l = (apart, λ h. next (h .0) (h .1))
-    where
-      apart : Each P (x ∷ l) → P x × Each P l
-      apart (next h t) = (h, t)
-
-  pub each-imp : {P Q : A → Type 0} {l : List A} → ((x : A) → P x → Q x) → Each P l → Each Q l
-  each-imp f end = end
-  each-imp f (next h t) = next (f _ h) (each-imp f t)
+  each-cons x l = (λ h. (first h, rest h), λ h. next (h .0) (h .1))
 
   pub each-imp₂ : {P Q R : A → Type 0} {l : List A} → ((x : A) → P x → Q x → R x) → Each P l → Each Q l → Each R l
   each-imp₂ f end end = end
   each-imp₂ f (next h t) (next k u) = next (f _ h k) (each-imp₂ f t u)
 
   pub each-places : {P : A → Type 0} (l : List A) (d : A) → Each P l ↔ ((k : ℕ) → k < length l → P (getD l k d))
-  each-places {P} l d = (at l, from l)
+  each-places {P} l d = (λ h k u. each-at l k d u h, from l)
     where
-      at : (l : List A) → Each P l → (k : ℕ) → k < length l → P (getD l k d)
-      at [] end k u = absurd (omega arith)
-      at (a ∷ l) (next h t) zero u = h
-      at (a ∷ l) (next h t) (suc k) u = at l t k (omega arith)
-
       from : (l : List A) → ((k : ℕ) → k < length l → P (getD l k d)) → Each P l
       from [] h = end
       from (x ∷ l) h = next (h zero (omega arith)) (from l (λ k u. h (suc k) (omega arith)))

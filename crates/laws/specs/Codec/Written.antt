@@ -18,8 +18,8 @@ use Rattle.spec.specs.Encode.{headerBytes, recordBytes, pageBytes, opBytes, hea
 use Rattle.spec.specs.Decode.{headerOf, jobOf}
 use Rattle.spec.specs.Check.{wrongEntry, wrongPage, wrongOwner, wrongRecord, wrongOp, wrongTurn, jobFault}
 use Rattle.spec.specs.Proper.{PageOk, FileOk}
-use Rattle.laws.specs.Codec.Tools.{getD-map, every, each-imp, each-map, each-places}
-use Rattle.laws.specs.Codec.Parts.{length-each}
+use Rattle.laws.specs.Tools.{each-imp}
+use Rattle.laws.specs.Codec.Tools.{getD-map, each-map, each-places}
 use Rattle.laws.specs.Codec.Numbers.{word-two, long-four, zeros-replicate}
 use Rattle.laws.specs.Codec.Rows.{accepted-rows, Limits, limits-said, Laid, header-said}
 use Rattle.laws.specs.Codec.InUse.{page-behind}
@@ -27,7 +27,7 @@ use Rattle.laws.specs.Codec.Owner.{entries-said, owners-said}
 use Rattle.laws.specs.Codec.Records.{records-said}
 use Rattle.laws.specs.Codec.Pages.{PageFine, pages-said}
 use Rattle.laws.specs.Codec.Ops.{OpFine, ops-said, turns-said}
-use Rattle.laws.specs.Codec.Sections.{length-record, jobFor, headOf, header-first, length-job, pages-written, ops-written, turns-written}
+use Rattle.laws.specs.Codec.Sections.{length-records, jobFor, headOf, header-first, length-job, pages-written, ops-written, turns-written}
 use Rattle.laws.specs.Codec.Back.{JobFits, number-back, sized, head-back, file-back, decode-encode}
 use Rattle.laws.specs.Codec.Sizes.{total-most}
 use Rattle.laws.specs.Codec.Proper.{RecordsFit, OpProper, JobProper, pages-proper, job-fits, file-proper}
@@ -40,7 +40,7 @@ rest-zero c p =
     ∙ zeros-replicate (8 * (c - length (p .records)))
   where
     front : length (p .depth ∷ length (p .records) ∷ two (p .pattern) ++ each recordBytes (p .records)) ≡ 4 + 8 * length (p .records)
-    front = let e = length-each recordBytes 8 (p .records) (every length-record (p .records)) in omega arith
+    front = let e = length-records (p .records) in omega arith
 
 unused-zero : (c : ℕ) → zeros (pageBytes c zeroPage) ≡ true
 unfolding pageBytes two zeros each

@@ -3,8 +3,8 @@
 use Prim.Native.Nat.{ℕ, zero, suc, _+_, _-_, _<_, _≤_}
 use mathlib.Core.Path.{_≡_, refl, sym, ap, _∙_}
 use mathlib.Core.Logic.{by-cases}
-use mathlib.Core.List.{List}
-use mathlib.Core.Bool.{Bool, true, false}
+use mathlib.Core.List.{List, []}
+use mathlib.Core.Bool.{Bool, true, false, not}
 use native.Mathlib.Omega.{arith}
 use native.Mathlib.Decide.{decLe}
 use lib.ListN.{length}
@@ -14,40 +14,51 @@ use Rattle.spec.specs.declared.Op.{Op}
 use Rattle.spec.specs.Key.{bit}
 use Rattle.spec.specs.File.{Page, File, pageAt}
 use Rattle.spec.specs.Job.{maxDepth}
-use Rattle.spec.specs.Split.{hasBit, withBit, half, Grown, joined, grow, allShare, leastShared, splitCount}
+use Rattle.spec.specs.Split.{hasBit, withBit, half, added, Grown, joined, grow, allShare, leastShared, splitCount}
 use Rattle.spec.specs.Turn.{recOf, planOf, newCount}
 use Rattle.spec.specs.Proper.{Each, In, Fit, PageOk}
-use Rattle.laws.specs.Tools.{if-true, if-false, beq-refl, beq-true, each-map, filter-all, filter-few}
+use Rattle.laws.specs.Tools.{if-true, if-false, beq-refl, beq-true, each-imp, filter-all, filter-few}
 use Rattle.laws.specs.Turns.Shared.{Shares, least-most, least-all, not-allShare, next-bit, bit-next}
 
 pub withBit-all : (v : Bool) (l : ℕ) (rs : List Rec) → Each (λ r. bit l (r .call) ≡ v) rs → withBit v l rs ≡ rs
 unfolding withBit hasBit
-withBit-all v l rs h = filter-all (hasBit v l) rs (each-map (λ r e. rw e (beq-refl v)) h)
+withBit-all v l rs h = filter-all (hasBit v l) rs (each-imp (λ r e. rw e (beq-refl v)) h)
 
 pub withBit-few : (v : Bool) (l : ℕ) (rs : List Rec) → (Each (λ r. bit l (r .call) ≡ v) rs → ⊥) → length (withBit v l rs) < length rs
 unfolding withBit hasBit
-withBit-few v l rs h = filter-few (hasBit v l) rs (λ t. h (each-map (λ r e. beq-true _ v e) t))
+withBit-few v l rs h = filter-few (hasBit v l) rs (λ t. h (each-imp (λ r e. beq-true _ v e) t))
 
 -- the records of a page share its depth with a call of the page
-pub shares-of : (g c : ℕ) (p : Page) (k : ℕ) → PageOk g c p → In p k → Shares (p .depth) (p .records) k
-shares-of g c p k h i = each-map (λ a e. e ∙ sym i) (h .homed)
+pub shares-of : (p : Page) (k : ℕ) → Each (λ a. In p (a .call)) (p .records) → In p k → Shares (p .depth) (p .records) k
+shares-of p k h i = each-imp (λ a e. e ∙ sym i) h
+
+-- a page with room, and a full one
+pub grow-fits : (c n : ℕ) (p : Page) (r : Rec) → length (p .records) < c → grow c (suc n) p r ≡ record { old = added p r; news = [] }
+unfolding grow
+grow-fits c n p r h = if-true _ _ (lt-ltb (length (p .records)) c h)
+
+pub grow-full
+    : (c n : ℕ) (p : Page) (r : Rec)
+    → c ≤ length (p .records)
+    → grow c (suc n) p r
+    ≡ joined (bit (p .depth) (r .call)) (half (not (bit (p .depth) (r .call))) p) (grow c n (half (bit (p .depth) (r .call)) p) r)
+unfolding grow
+grow-full c n p r h = if-false _ _ (le-ltb (length (p .records)) c h)
 
 joined-count : (v : Bool) (q : Page) (t : Grown) → length (joined v q t .news) ≡ suc (length (t .news))
 unfolding joined
 joined-count true q t = refl
 joined-count false q t = refl
 
-grow-fits : (c n : ℕ) (p : Page) (r : Rec) → 0 < n → length (p .records) < c → length (grow c n p r .news) ≡ 0
-unfolding grow
-grow-fits c zero p r z h = absurd (omega arith)
-grow-fits c (suc n) p r z h = ap (λ (t : Grown). length (t .news)) (if-true _ _ (lt-ltb _ _ h))
+count-fits : (c n : ℕ) (p : Page) (r : Rec) → 0 < n → length (p .records) < c → length (grow c n p r .news) ≡ 0
+count-fits c zero p r z h = absurd (omega arith)
+count-fits c (suc n) p r z h = ap (λ (t : Grown). length (t .news)) (grow-fits c n p r h)
 
-pub grow-full
+pub count-full
     : (c n : ℕ) (p : Page) (r : Rec)
     → c ≤ length (p .records)
     → length (grow c (suc n) p r .news) ≡ suc (length (grow c n (half (bit (p .depth) (r .call)) p) r .news))
-unfolding grow
-grow-full c n p r h = ap (λ (t : Grown). length (t .news)) (if-false _ _ (le-ltb _ _ h)) ∙ joined-count _ _ _
+count-full c n p r h = ap (λ (t : Grown). length (t .news)) (grow-full c n p r h) ∙ joined-count _ _ _
 
 -- the number of splits of a full page whose records share its depth with the call
 pub grow-count
@@ -63,7 +74,7 @@ grow-count c (suc n) p r w e s h =
     let l : p .depth < 32 = omega arith in
     let k = least-most _ (r .call) _ (omega arith) s in
     let v = bit (p .depth) (r .call) in
-    let full = grow-full c n p r (omega arith) in
+    let full = count-full c n p r (omega arith) in
     by-cases (decLe (suc (p .depth)) (leastShared (p .records) (r .call)))
     (λ q.
     let t = least-all (p .records) (r .call) (suc (p .depth)) q in
@@ -73,7 +84,7 @@ grow-count c (suc n) p r w e s h =
     omega arith)
     (λ q.
     let few = withBit-few v (p .depth) (p .records) (λ t. q (least-most _ (r .call) _ l (bit-next _ (p .records) (r .call) l s t))) in
-    let fits = grow-fits c n (half v p) r (omega arith) (omega arith) in
+    let fits = count-fits c n (half v p) r (omega arith) (omega arith) in
     omega arith)
 
 -- "How many leading bits two pseudo keys share settles n": of a full page for which "no depth" is not the answer
@@ -88,7 +99,7 @@ pub split-count
 unfolding splitCount
 split-count g c p r w h i full e =
     let l = not-allShare g (p .records) (r .call) (omega arith) e in
-    grow-count c (suc g) p r (omega (arith, h .deep)) (omega (arith, h .room)) (shares-of g c p (r .call) h i) (omega arith)
+    grow-count c (suc g) p r (omega (arith, h .deep)) (omega (arith, h .room)) (shares-of p (r .call) (h .homed) i) (omega arith)
 
 -- "The largest is g − l"
 pub split-most

@@ -15,7 +15,7 @@ use Rattle.spec.specs.File.{Page, File, pageAt}
 use Rattle.spec.specs.Split.{digit, half, added, Grown, joined, grow}
 use Rattle.spec.specs.Turn.{recOf, planOf, newCount}
 use Rattle.spec.specs.Proper.{end, next, Each, Fit, PageOk}
-use Rattle.laws.specs.Tools.{if-case, first, rest, each-map}
+use Rattle.laws.specs.Tools.{if-case, first, rest, each-imp}
 use Rattle.laws.specs.Turns.Grow.{joined-each}
 use Rattle.laws.specs.Turns.Work.{Plan}
 use Rattle.laws.specs.Turns.SplitPlan.{made}
@@ -28,7 +28,7 @@ grow-deep c (suc n) p r =
     let v = bit (p .depth) (r .call) in
     let l : p .depth ≤ suc (p .depth) = omega arith in
     if-case (λ (t : Grown). Each (λ q. p .depth ≤ q .depth) (t .old ∷ t .news)) (λ e. next (le-refl (p .depth)) end)
-    (λ e. joined-each v _ _ l (each-map (λ q h. omega arith) (grow-deep c n (half v p) r)))
+    (λ e. joined-each v _ _ l (each-imp (λ q h. omega arith) (grow-deep c n (half v p) r)))
 
 -- where the page is split, all are deeper
 grow-deeper
@@ -106,4 +106,4 @@ module _ (f : File) (op : Op) (x : ℕ) where
   -- and the depth, with one more for each new page, is at most the directory's
   pub plan-most : Fit f → PageOk (f .g) (f .c) (pageAt f x) → Plan f op x → pageAt f x .depth + newCount f op x ≤ f .g
   unfolding planOf newCount
-  plan-most fit ok pl = grow-most (f .g) (f .c) (suc (f .g)) (pageAt f x) (recOf op) (each-map (λ q m. m .ok .deep) (made f op x fit ok pl))
+  plan-most fit ok pl = grow-most (f .g) (f .c) (suc (f .g)) (pageAt f x) (recOf op) (each-imp (λ q m. m .ok .deep) (made f op x fit ok pl))

@@ -29,7 +29,7 @@ use Rattle.spec.specs.Claims.{stateAt}
 use Rattle.laws.specs.Tools.{if-case}
 use Rattle.laws.specs.Turns.Prefix.{fit-32}
 use Rattle.laws.specs.Turns.Shared.{allShare-least}
-use Rattle.laws.specs.Turns.Count.{grow-full, split-count}
+use Rattle.laws.specs.Turns.Count.{count-full, new-count}
 use Rattle.laws.specs.Turns.Rows.{stage-after, step-case, first-row}
 use Rattle.laws.specs.Turns.Locks.{Holds}
 use Rattle.laws.specs.Turns.Good.{Fine, Good}
@@ -172,10 +172,9 @@ full j ok (suc t) l = rw (stateAt-suc j t l) (step-full (j .ops) _ (who j t) (wh
 module _ (f : File) (op : Op) (x : ℕ) (h : FullPage f x) where
   pub full-splits : 0 < newCount f op x
   unfolding newCount planOf
-  full-splits = let z = grow-full (f .c) (f .g) (pageAt f x) (recOf op) h in omega arith
+  full-splits = let z = count-full (f .c) (f .g) (pageAt f x) (recOf op) h in omega arith
 
   pub full-count : Fit f → PageOk (f .g) (f .c) (pageAt f x) → Plan f op x → newCount f op x ≡ splitCount (pageAt f x) (op .call)
-  unfolding newCount planOf
   full-count fit ok pl =
-      split-count (f .g) (f .c) (pageAt f x) (recOf op) (fit .depth) ok (pl .here) h
+      new-count f op x fit ok (pl .here) h
       (allShare-least (f .g) _ (op .call) (fit-32 f fit) ∙ lt-leb (f .g) _ (pl .depth))

@@ -23,7 +23,7 @@ use Rattle.spec.specs.State.{State}
 use Rattle.spec.specs.Turn.{homeOf, recOf, planOf, newCount, goesTo}
 use Rattle.spec.specs.Run.{stageOf}
 use Rattle.spec.specs.Proper.{Each, In, Fit, PageOk}
-use Rattle.laws.specs.Tools.{if-case, if-true, if-false, beq-refl, first, rest, each-map, each-at}
+use Rattle.laws.specs.Tools.{if-case, if-true, if-false, beq-refl, first, rest, each-imp, each-at}
 use Rattle.laws.specs.Key.{index-onto}
 use Rattle.laws.specs.Turns.Prefix.{fit-32, index-in, index-prefix, begins-in, in-begins, of-half, to-half}
 use Rattle.laws.specs.Turns.Owners.{newOwner-at, newOwner-none}
@@ -164,7 +164,7 @@ module _ (g call b k last : ℕ) (p : Page) (t : Grown) (q : ℕ)
         (ih (mine ub) k)
     one-split true false a vb ub num inside covers apart ih =
         inl (
-          owner-none g (t .old ∷ t .news) (suc a) q w ds (each-map (λ z f h. other ub false≢true (f h)) inside),
+          owner-none g (t .old ∷ t .news) (suc a) q w ds (each-imp (λ z f h. other ub false≢true (f h)) inside),
           last-off g call entry rest-splits (p .depth) k last false (eb ub) vb,
         )
     one-split false true a vb ub num inside covers apart ih =
@@ -199,7 +199,7 @@ grow-by g c (suc m) b k last a p r q w d i num =
     let own = joined-own v _ _ ds .0 in
     let deep : p .depth < g = omega (arith, first (grow-deep c m (half v p) r), first own) in
     one-split g (r .call) b k last p _ q w deep i own v (bit (p .depth) q) a refl refl num
-    (each-map (λ z s. s .inside q) (grow-serves c m (half v p) r (omega arith)))
+    (each-imp (λ z s. s .inside q) (grow-serves c m (half v p) r (omega arith)))
     (λ h. grow-covers c m (half v p) r q (omega arith) h)
     (grow-apart c m (half v p) r q (omega arith))
     (λ h last'. grow-by g c m b (suc k) last' (suc a) (half v p) r q w (omega arith) h (omega arith) own))
@@ -284,7 +284,7 @@ module _ (f : File) (op : Op) (x : ℕ) (fit : Fit f) (ok : PageOk (f .g) (f .c)
   unfolding goesTo planOf newCount
   goes-by b e l h =
       newOwner-by (f .g) (f .c) (suc (f .g)) b (pageAt f x) (recOf op) e (fit-32 f fit) (omega (arith, fit .depth, ok .deep))
-      (each-map (λ q m. m .ok .deep) (made f op x fit ok pl)) l h
+      (each-imp (λ q m. m .ok .deep) (made f op x fit ok pl)) l h
 
   -- where it goes at all, by its last split
   pub goes-last : (b e : ℕ) → e < 2 ^ f .g → (goesTo f op x b e ≡ 0 → ⊥) → (goesTo f op x b e ≡ b + lastSplit f op x e) × (0 < lastSplit f op x e)

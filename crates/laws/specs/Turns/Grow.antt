@@ -10,7 +10,7 @@ use Rattle.spec.specs.Key.{index, bit}
 use Rattle.spec.specs.File.{Page, findIn}
 use Rattle.spec.specs.Split.{hasBit, withBit, digit, half, added, Grown, joined, grow}
 use Rattle.spec.specs.Proper.{end, next, Each, In}
-use Rattle.laws.specs.Tools.{if-case, beq-refl, first, rest, each-map}
+use Rattle.laws.specs.Tools.{if-case, beq-refl, first, rest, each-imp}
 use Rattle.laws.specs.Turns.Prefix.{of-half, to-half}
 use Rattle.laws.specs.Turns.Records.{added-other, filter-find}
 use Rattle.laws.specs.Turns.Owners.{Lone, alone, one}
@@ -67,7 +67,7 @@ grow-serves c (suc n) p r h =
     if-case (λ (t : Grown). Each (Serves p r) (t .old ∷ t .news)) (λ e. next (added-serves p r) end)
     (λ e.
     joined-each v _ _ (half-serves (not v) p r l)
-    (each-map (λ q. serves-trans p r (half v p) q (half-serves v p r l)) (grow-serves c n (half v p) r (omega arith))))
+    (each-imp (λ q. serves-trans p r (half v p) q (half-serves v p r l)) (grow-serves c n (half v p) r (omega arith))))
 
 -- a call of the page that goes to none of the new pages stays in the old
 joined-covers
@@ -115,7 +115,7 @@ joined-apart
     → Each (λ q. In q k → In (t .old) k → ⊥) (t .news)
     → Each (λ q. In q k → In (joined v (half (not v) p) t .old) k → ⊥) (joined v (half (not v) p) t .news)
 unfolding joined
-joined-apart true p t k l w h = each-map (λ q f a b. half-apart true false p k l true≢false (f a) b) w
+joined-apart true p t k l w h = each-imp (λ q f a b. half-apart true false p k l true≢false (f a) b) w
 joined-apart false p t k l w h = next (λ a b. half-apart true false p k l true≢false a (first w b)) h
 
 pub grow-apart
@@ -128,7 +128,7 @@ grow-apart c (suc n) p r k h =
     if-case (λ (t : Grown). Each (λ q. In q k → In (t .old) k → ⊥) (t .news)) (λ e. end)
     (λ e.
     let v = bit (p .depth) (r .call) in
-    joined-apart v p _ k (omega arith) (each-map (λ q z. z .inside k) (grow-serves c n (half v p) r (omega arith)))
+    joined-apart v p _ k (omega arith) (each-imp (λ q z. z .inside k) (grow-serves c n (half v p) r (omega arith)))
     (grow-apart c n (half v p) r k (omega arith)))
 
 -- nor of two of the new pages
@@ -140,8 +140,8 @@ joined-lone
     → Lone k (t .news)
     → Lone k (joined v (half (not v) p) t .news)
 unfolding joined
-joined-lone true p t k l w a h = one (λ i. each-map (λ q f z. f z i) a) h
-joined-lone false p t k l w a h = one (λ i. each-map (λ q f z. half-apart true false p k l true≢false i (f z)) (rest w)) h
+joined-lone true p t k l w a h = one (λ i. each-imp (λ q f z. f z i) a) h
+joined-lone false p t k l w a h = one (λ i. each-imp (λ q f z. half-apart true false p k l true≢false i (f z)) (rest w)) h
 
 pub grow-lone : (c n : ℕ) (p : Page) (r : Rec) (k : ℕ) → p .depth + n ≤ 32 → Lone k (grow c n p r .news)
 unfolding grow half
@@ -150,6 +150,6 @@ grow-lone c (suc n) p r k h =
     if-case (λ (t : Grown). Lone k (t .news)) (λ e. alone)
     (λ e.
     let v = bit (p .depth) (r .call) in
-    joined-lone v p _ k (omega arith) (each-map (λ q z. z .inside k) (grow-serves c n (half v p) r (omega arith)))
+    joined-lone v p _ k (omega arith) (each-imp (λ q z. z .inside k) (grow-serves c n (half v p) r (omega arith)))
     (grow-apart c n (half v p) r k (omega arith))
     (grow-lone c n (half v p) r k (omega arith)))

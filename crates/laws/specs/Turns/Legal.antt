@@ -29,7 +29,7 @@ use Rattle.spec.specs.Run.{tableAfter, fileAfter, stageOf, idle, step}
 use Rattle.spec.specs.Proper.{PageNo}
 use Rattle.laws.specs.Tools.{if-case}
 use Rattle.laws.specs.Turns.Prefix.{index-in}
-use Rattle.laws.specs.Turns.Count.{grow-full}
+use Rattle.laws.specs.Turns.Count.{count-full}
 use Rattle.laws.specs.Turns.Ranges.{Locked}
 use Rattle.laws.specs.Turns.Rows.{step-case}
 use Rattle.laws.specs.Turns.Locks.{Holds, Frees}
@@ -151,7 +151,7 @@ module _ (ops : List Op) (s : State) (op : Op) (good : Good ops s) where
       (λ b.
       if-case (L (Held x Decide)) (λ c. calm (λ p. Iff·rfl) (h, tt))
       (λ c.
-      let w = grow-full (s .file .c) (s .file .g) (pageAt (s .file) x) (recOf op) (ltb-false _ _ a) in
+      let w = count-full (s .file .c) (s .file .g) (pageAt (s .file) x) (recOf op) (ltb-false _ _ a) in
       claim-legal x _ h refl (omega arith) (ltb-false _ _ c))))
 
   decided-legal : (x : ℕ) (k : Kind) (o : Option Rec) → PageNo (s .file) x → L (Held x Decide) (decided s op x k o)

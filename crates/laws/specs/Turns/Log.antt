@@ -15,7 +15,7 @@ use Rattle.spec.specs.Run.{rowOf}
 use Rattle.spec.specs.Result.{Line, isAt, linesAt, linesFrom, logOf}
 use Rattle.spec.specs.Proper.{end, next, Each}
 use Rattle.spec.specs.Claims.{times, Before, noLine}
-use Rattle.laws.specs.Tools.{if-case, if-true, if-false, and-left, and-right, first, rest, each-map, each-append, each-at}
+use Rattle.laws.specs.Tools.{if-case, if-true, if-false, and-left, and-right, first, rest, each-imp, each-append, each-at}
 use Rattle.laws.specs.Turns.Rows.{code-row}
 
 pub times-nil : (a : ℕ) → times a [] ≡ 0
@@ -119,7 +119,7 @@ inside : (t : ℕ) (rs : List Row) (i : ℕ) → Each (Inside t rs i) (linesAt t
 unfolding linesAt
 inside t [] i = end
 inside t (r ∷ rs) i =
-    let ih = each-map (λ h w. inside-cons t r rs i h w) (inside t rs (suc i)) in
+    let ih = each-imp (λ h w. inside-cons t r rs i h w) (inside t rs (suc i)) in
     let z : i - i ≡ 0 = omega arith in
     if-case (Each (Inside t (r ∷ rs) i)) (λ u. next (record { time = refl; from = omega arith; mark = rw z (marked t r u) }) ih) (λ u. ih)
 
@@ -129,12 +129,12 @@ unfolding linesFrom
 says zero t rs = end
 says (suc n) t rs =
     each-append (linesAt t rs 0) _
-    (each-map
+    (each-imp
     (λ h w.
     let z : h .op - 0 ≡ h .op = omega arith in
     (rw (w .time, ← z) (w .mark), omega (arith, w .time)))
     (inside t rs 0))
-    (each-map (λ h w. (w .0, omega (arith, w .1))) (says n (suc t) rs))
+    (each-imp (λ h w. (w .0, omega (arith, w .1))) (says n (suc t) rs))
 
 -- lines in order
 data Sorted : List Line → Type 0 where
@@ -150,7 +150,7 @@ unfolding linesAt
 sorted-moment t [] i = none
 sorted-moment t (r ∷ rs) i =
     if-case Sorted
-    (λ u. one (each-map (λ h w. inr (sym (w .time), omega (arith, w .from))) (inside t rs (suc i))) (sorted-moment t rs (suc i)))
+    (λ u. one (each-imp (λ h w. inr (sym (w .time), omega (arith, w .from))) (inside t rs (suc i))) (sorted-moment t rs (suc i)))
     (λ u. sorted-moment t rs (suc i))
 
 sorted-from : (n t : ℕ) (rs : List Row) → Sorted (linesFrom n t rs)
@@ -158,7 +158,7 @@ unfolding linesFrom
 sorted-from zero t rs = none
 sorted-from (suc n) t rs =
     sorted-join (linesAt t rs 0) _ (sorted-moment t rs 0) (sorted-from n (suc t) rs)
-    (each-map (λ h w. each-map (λ g v. inl (omega (arith, w .time, v .1))) (says n (suc t) rs)) (inside t rs 0))
+    (each-imp (λ h w. each-imp (λ g v. inl (omega (arith, w .time, v .1))) (says n (suc t) rs)) (inside t rs 0))
 
 sorted-at : (hs : List Line) (p q : ℕ) → Sorted hs → p < q → q < length hs → Before (getD hs p noLine) (getD hs q noLine)
 sorted-at [] p q s l l' = absurd (omega arith)
@@ -186,4 +186,4 @@ module _ (s : State) where
 
   pub log-rows : Each (λ h. h .op < length (s .rows)) (logOf s)
   unfolding logOf rowOf
-  log-rows = each-map (λ h w. code-row s (h .op) (w .0 .code)) (says (s .now) 0 (s .rows))
+  log-rows = each-imp (λ h w. code-row s (h .op) (w .0 .code)) (says (s .now) 0 (s .rows))

@@ -100,7 +100,7 @@ ready-half
     → Ready g c n (half (bit (p .depth) (r .call)) p) (r .call)
 unfolding half
 ready-half g c n p r w l h i a b =
-    let s = shares-of g c p (r .call) h i in
+    let s = shares-of p (r .call) (h .homed) i in
     let k = least-most (p .records) (r .call) (p .depth) (omega arith) s in
     by-cases (decLe (suc (p .depth)) (leastShared (p .records) (r .call)))
     (λ q.
@@ -122,10 +122,10 @@ pub grow-made
     → Each (Made g c r) (grow c n p r .old ∷ grow c n p r .news)
 unfolding grow half added
 grow-made g c zero p r w h i a d =
-    let k = least-most (p .records) (r .call) (p .depth) (omega (arith, h .deep)) (shares-of g c p (r .call) h i) in
+    let k = least-most (p .records) (r .call) (p .depth) (omega (arith, h .deep)) (shares-of p (r .call) (h .homed) i) in
     ⊎-elim (λ x. absurd (omega arith)) (λ x. absurd (omega arith)) d
 grow-made g c (suc n) p r w h i a d =
-    let k = least-most (p .records) (r .call) (p .depth) (omega (arith, h .deep)) (shares-of g c p (r .call) h i) in
+    let k = least-most (p .records) (r .call) (p .depth) (omega (arith, h .deep)) (shares-of p (r .call) (h .homed) i) in
     let v = bit (p .depth) (r .call) in
     if-case (λ (t : Grown). Each (Made g c r) (t .old ∷ t .news))
     (λ e. next (record { ok = added-ok g c p r h i (ltb-true _ c e) a; there = λ j. added-own (p .records) r a }) end)

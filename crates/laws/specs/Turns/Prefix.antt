@@ -12,9 +12,12 @@ use Rattle.spec.specs.Split.{digit}
 use Rattle.spec.specs.Proper.{In, Fit}
 use Rattle.laws.specs.Key.{index-lt}
 
-pub firstBits-prefix : (l g key : ℕ) → l ≤ g → g ≤ 32 → firstBits g key / 2 ^ (g - l) ≡ firstBits l key
+firstBits-prefix : (l g key : ℕ) → l ≤ g → g ≤ 32 → firstBits g key / 2 ^ (g - l) ≡ firstBits l key
 unfolding firstBits
 firstBits-prefix l g key h w = shr-shr key (32 - g) (g - l) ∙ ap (λ n. key / 2 ^ n) (omega arith)
+
+pub firstBits-half : (l key : ℕ) → l < 32 → firstBits (suc l) key / 2 ≡ firstBits l key
+firstBits-half l key h = let e : suc l - l ≡ 1 = omega arith in rw e at (firstBits-prefix l (suc l) key (omega arith) h)
 
 pub index-prefix : (l g k : ℕ) → l ≤ g → g ≤ 32 → index g k / 2 ^ (g - l) ≡ index l k
 unfolding index
@@ -38,7 +41,8 @@ in-begins g q k l w i = eq-eqb _ _ (index-prefix (q .depth) g k l w ∙ i)
 
 -- a call of one half of a page: its next bit, and it is of the page
 index-half : (l k : ℕ) → l < 32 → index l k ≡ index (suc l) k / 2
-index-half l k h = let e : suc l - l ≡ 1 = omega arith in sym (rw e at (index-prefix l (suc l) k (omega arith) h))
+unfolding index
+index-half l k h = sym (firstBits-half l (pseudoKey k) h)
 
 pub of-half : (v : Bool) (l k q : ℕ) → l < 32 → index (suc l) k ≡ 2 * q + digit v → (bit l k ≡ v) × (index l k ≡ q)
 unfolding bit digit

@@ -28,10 +28,10 @@ pub find-miss : (r : Rec) (rs : List Rec) (k : ℕ) → (r .call ≡ k → ⊥) 
 unfolding findIn
 find-miss r rs k n = if-false _ _ (ne-eqb _ _ n)
 
-none-head : (r : Rec) (rs : List Rec) (k : ℕ) → findIn (r ∷ rs) k ≡ none → r .call ≡ k → ⊥
+pub none-head : (r : Rec) (rs : List Rec) (k : ℕ) → findIn (r ∷ rs) k ≡ none → r .call ≡ k → ⊥
 none-head r rs k h e = let z : _≡_ {A = ℕ} 0 1 = cc (find-hit r rs k e) in omega arith
 
-none-tail : (r : Rec) (rs : List Rec) (k : ℕ) → findIn (r ∷ rs) k ≡ none → findIn rs k ≡ none
+pub none-tail : (r : Rec) (rs : List Rec) (k : ℕ) → findIn (r ∷ rs) k ≡ none → findIn rs k ≡ none
 none-tail r rs k h = sym (find-miss r rs k (none-head r rs k h)) ∙ h
 
 -- in two lists, one behind the other

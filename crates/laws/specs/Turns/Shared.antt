@@ -13,7 +13,7 @@ use Rattle.spec.specs.declared.Rec.{Rec}
 use Rattle.spec.specs.Key.{pseudoKey, index, bit, shared}
 use Rattle.spec.specs.Split.{sharesIndex, allShare, leastShared}
 use Rattle.spec.specs.Proper.{end, next, Each}
-use Rattle.laws.specs.Tools.{if-case, bool-same, first, rest, each-map, allOf-true, true-allOf}
+use Rattle.laws.specs.Tools.{if-case, bool-same, first, rest, each-imp, allOf-true, true-allOf}
 use Rattle.laws.specs.Key.{index-lt}
 use Rattle.laws.specs.Turns.Prefix.{index-prefix, to-half}
 
@@ -24,13 +24,14 @@ Shares d rs k = Each (λ r. index d (r .call) ≡ index d k) rs
 share-less : (d e a b : ℕ) → d ≤ e → e ≤ 32 → index e a ≡ index e b → index d a ≡ index d b
 share-less d e a b h w s = sym (index-prefix d e a h w) ∙ ap (λ i. i / 2 ^ (e - d)) s ∙ index-prefix d e b h w
 
-abbrev sharedBy : ℕ → ℕ → ℕ → ℕ
-sharedBy n a b = shared n (pseudoKey a) (pseudoKey b)
-
-shared-top : (n a b : ℕ) → sharedBy n a b ≤ n
+pub shared-top : (n a b : ℕ) → shared n a b ≤ n
 unfolding shared
 shared-top zero a b = omega arith
 shared-top (suc n) a b = if-case (λ d. d ≤ suc n) (λ e. omega arith) (λ e. let h = shared-top n a b in omega arith)
+
+-- of two calls
+abbrev sharedBy : ℕ → ℕ → ℕ → ℕ
+sharedBy n a b = shared n (pseudoKey a) (pseudoKey b)
 
 shared-eq : (n a b : ℕ) → index (sharedBy n a b) a ≡ index (sharedBy n a b) b
 unfolding shared index
@@ -57,14 +58,14 @@ pub least-all : (rs : List Rec) (k d : ℕ) → d ≤ leastShared rs k → Share
 unfolding leastShared
 least-all [] k d h = end
 least-all (r ∷ rs) k d h =
-    next (share-less d _ (r .call) k (omega arith) (shared-top 32 (r .call) k) (shared-eq 32 (r .call) k)) (least-all rs k d (omega arith))
+    next (share-less d _ (r .call) k (omega arith) (shared-top 32 (pseudoKey (r .call)) (pseudoKey k)) (shared-eq 32 (r .call) k)) (least-all rs k d (omega arith))
 
 -- "all c records share their first g bits with the call", by the number that settles n
 pub allShare-least : (g : ℕ) (rs : List Rec) (k : ℕ) → g ≤ 32 → allShare g rs k ≡ leb g (leastShared rs k)
 unfolding allShare sharesIndex
 allShare-least g rs k h =
-    bool-same _ _ (λ e. le-leb g _ (least-most rs k g h (each-map (λ r u. eqb-true _ _ u) (allOf-true (sharesIndex g k) rs e))))
-    (λ e. true-allOf (sharesIndex g k) rs (each-map (λ r u. eq-eqb _ _ u) (least-all rs k g (leb-true g _ e))))
+    bool-same _ _ (λ e. le-leb g _ (least-most rs k g h (each-imp (λ r u. eqb-true _ _ u) (allOf-true (sharesIndex g k) rs e))))
+    (λ e. true-allOf (sharesIndex g k) rs (each-imp (λ r u. eq-eqb _ _ u) (least-all rs k g (leb-true g _ e))))
 
 pub not-allShare : (g : ℕ) (rs : List Rec) (k : ℕ) → g ≤ 32 → allShare g rs k ≡ false → leastShared rs k < g
 not-allShare g rs k h e = leb-false g _ (sym (allShare-least g rs k h) ∙ e)
@@ -72,7 +73,7 @@ not-allShare g rs k h e = leb-false g _ (sym (allShare-least g rs k h) ∙ e)
 -- records that share l bits with the call share one more exactly if their next bits are the call's
 pub next-bit : (l : ℕ) (rs : List Rec) (k : ℕ) → Shares (suc l) rs k → Each (λ r. bit l (r .call) ≡ bit l k) rs
 unfolding bit
-next-bit l rs k t = each-map (λ r e. ap (λ i. eqb (i % 2) 1) e) t
+next-bit l rs k t = each-imp (λ r e. ap (λ i. eqb (i % 2) 1) e) t
 
 pub bit-next : (l : ℕ) (rs : List Rec) (k : ℕ) → l < 32 → Shares l rs k → Each (λ r. bit l (r .call) ≡ bit l k) rs → Shares (suc l) rs k
 bit-next l [] k h s t = end

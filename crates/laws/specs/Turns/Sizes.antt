@@ -16,7 +16,7 @@ use Rattle.spec.specs.Run.{rowAfter, rowOf, tick, act, step, start, run}
 use Rattle.spec.specs.Result.{Line, logOf, resultOf, result}
 use Rattle.spec.specs.Proper.{Each, FileOk}
 use Rattle.spec.specs.Claims.{times}
-use Rattle.laws.specs.Tools.{if-case, first, rest, each-map, set-all}
+use Rattle.laws.specs.Tools.{if-case, first, rest, each-imp, set-all}
 use Rattle.laws.specs.Turns.Rows.{step-case, steps-keep, first-row}
 use Rattle.laws.specs.Turns.States.{run-now}
 use Rattle.laws.specs.Turns.Whole.{Whole, end-whole}
@@ -102,7 +102,7 @@ module _ (j : Job) (ok : FileOk (j .file)) where
   pub log-count : length (result j .log) ≡ answered (run j) (length (j .ops))
   unfolding result resultOf
   log-count =
-      sym (tally-length (length (j .ops)) (logOf (run j)) (each-map (λ h l. omega (arith, w .rows)) (log-rows (run j))))
+      sym (tally-length (length (j .ops)) (logOf (run j)) (each-imp (λ h l. omega (arith, w .rows)) (log-rows (run j))))
       ∙ tally-answered (run j) (λ i n. w .past .right i n .1) (length (j .ops))
 
   pub log-le : length (result j .log) ≤ length (j .ops)

@@ -12,7 +12,7 @@ use Rattle.spec.specs.Key.{index}
 use Rattle.spec.specs.File.{File, zeroPage, pageAt}
 use Rattle.spec.specs.Turn.{recOf, planOf, newCount, goesTo}
 use Rattle.spec.specs.Proper.{Each, In, Fit, PageOk}
-use Rattle.laws.specs.Tools.{rest, each-map, each-at}
+use Rattle.laws.specs.Tools.{rest, each-imp, each-at}
 use Rattle.laws.specs.Turns.Prefix.{fit-32, begins-in}
 use Rattle.laws.specs.Turns.Owners.{newOwner-at, newOwner-none, newOwner-is}
 use Rattle.laws.specs.Turns.Grow.{Serves, grow-serves, grow-covers, grow-apart, grow-lone}
@@ -35,7 +35,7 @@ module _ (f : File) (op : Op) (x : ℕ) (fit : Fit f) (ok : PageOk (f .g) (f .c)
   serves = grow-serves (f .c) (suc (f .g)) (pageAt f x) (recOf op) deep
 
   depths : Each (λ q. q .depth ≤ f .g) (planOf f op x .news)
-  depths = each-map (λ q m. m .ok .deep) (rest made)
+  depths = each-imp (λ q m. m .ok .deep) (rest made)
 
   -- a call of the page whose entry stays is of the old page, as it will be, and the other way round
   pub stays-old : (k : ℕ) → In (pageAt f x) k → goesTo f op x 0 (index (f .g) k) ≡ 0 → In (planOf f op x .old) k

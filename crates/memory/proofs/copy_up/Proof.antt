@@ -6,10 +6,11 @@ use native.Mathlib.Omega.{arith}
 use lib.ListN.{length, getD, take, drop, length-set}
 use lib.Seq.{take-all}
 use Rattle.spec.specs.Bytes.{byte}
+use Rattle.laws.specs.Codec.Parts.{byte-in}
 use Rattle.wire.specs.Over.{over}
 use Rattle.wire.specs.OverLaws.{over-none, over-next}
 use Rattle.wire.specs.Reads.{byte-over-other}
-use Rattle.wire.specs.Parts.{length-part, byte-part}
+use Rattle.wire.specs.Parts.{length-part}
 use Rattle.memory.proofs.copy_up.Statement.{statement}
 use Rattle.memory.proofs.copy_up.Tie as tie
 
@@ -49,7 +50,7 @@ loop-again c =
     let y : List ℕ = take (a .n) (drop (a .from) s) in
     let long : length y ≡ a .n = length-part s (a .from) (a .n) (omega arith) in
     let read = byte-over-other (take (l .i) y) s (a .to) (a .from + l .i) (inl (omega arith)) in
-    let here : getD y (l .i) 0 ≡ getD s (a .from + l .i) 0 = byte-part s (a .from) (a .n) (l .i) (omega arith) in
+    let here : getD y (l .i) 0 ≡ getD s (a .from + l .i) 0 = byte-in (a .n) (a .from) s (l .i) (omega arith) in
     let more = rw here at (over-next y s (a .to) (l .i) (omega arith)) in
     (omega arith, simp length-set (l .inv .1), rw (l .inv .2, read) more)
 

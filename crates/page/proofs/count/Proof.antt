@@ -1,7 +1,7 @@
 -- `page::count` meets its contract: byte 1.
 use native.Mathlib.Omega.{arith}
 use mathlib.Core.Path.{sym, _∙_}
-use Rattle.page.specs.View.{count-is}
+use Rattle.laws.specs.Codec.Pages.{records-count}
 use Rattle.page.proofs.count.Statement.{statement}
 use Rattle.page.proofs.count.Tie as tie
 
@@ -11,7 +11,7 @@ u8-at-requires c κs = omega arith
 returns : tie.Need-returns
 returns c =
     let e = c .u8-at .ensures in
-    (e .0 ∙ sym (count-is (c .before .before .args .page .now)), e .0, e .1)
+    (e .0 ∙ sym (records-count (c .before .before .args .page .now)), e .0, e .1)
 
 pub count-spec : {M : Type 1} → statement M
 count-spec = tie.close (tie.spec u8-at-requires returns)

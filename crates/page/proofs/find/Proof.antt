@@ -1,16 +1,13 @@
 -- `page::find` meets its contract: the answer is the answer among the records that are left.
 use mathlib.Core.Path.{_≡_, sym, ap, _∙_}
-use mathlib.Core.Bool.{false}
 use Prim.Native.Nat.{_+_, _-_, _≤_}
 use native.Mathlib.Omega.{arith}
-use lib.Dec.{eqb}
-use borrow.Author.Tests.{eq-eqb, ne-eqb}
 use Rattle.spec.specs.File.{findIn}
 use Rattle.spec.specs.Decode.{pageOf}
 use Rattle.spec.specs.Cases.{foundOf}
 use Rattle.spec.specs.declared.Found.the-variants.{Charge}
+use Rattle.laws.specs.Turns.Records.{find-nil, find-hit, find-miss}
 use Rattle.page.specs.View.{recordAt, recordsFrom, left-all, left-more, left-none}
-use Rattle.page.specs.Find.{find-nil, find-hit, find-miss}
 use Rattle.page.proofs.find.Statement.{statement}
 use Rattle.page.proofs.find.Tie as tie
 
@@ -40,7 +37,7 @@ returns c =
     let s = a .page .now in
     let it = c .before .before .rec-at .ensures in
     let same : recordAt s (l .i) .call ≡ a .call = ap (λ r. r .call) (sym it) ∙ c .if1 .taken in
-    let hit = find-hit (recordAt s (l .i)) (recordsFrom s (l .i + 1) (n - (l .i + 1))) (a .call) (eq-eqb _ _ same) in
+    let hit = find-hit (recordAt s (l .i)) (recordsFrom s (l .i + 1) (n - (l .i + 1))) (a .call) same in
     rw (l .inv .1, left-more s (l .i) n (omega arith), hit) (ap (λ r. Charge (r .charge)) it)
 
 add-i : tie.Need-add-i Inv-loop μ-loop
@@ -56,7 +53,7 @@ loop-again c =
     let n = c .before .before .before .before .before .count .result in
     let s = a .page .now in
     let it = c .before .before .rec-at .ensures in
-    let other : eqb (recordAt s (l .i) .call) (a .call) ≡ false = rw (← it) (ne-eqb _ _ (c .if1 .left)) in
+    let other : recordAt s (l .i) .call ≡ a .call → ⊥ = rw (← it) (c .if1 .left) in
     (omega arith, l .inv .1 ∙ rw (left-more s (l .i) n (omega arith)) (find-miss (recordAt s (l .i)) _ (a .call) other))
 
 returns-2 : tie.Need-returns-2 Inv-loop μ-loop

@@ -1,7 +1,5 @@
-use mathlib.Core.Path.{_∙_}
 use native.Mathlib.Omega.{arith}
-use Rattle.result.specs.Marks.{markPlace}
-use Rattle.result.specs.Image.{mark-image, answer-image, begun-image}
+use Rattle.result.specs.Marks.{markPlace, withAnswer, withMark}
 use Rattle.result.proofs.tell.Statement.{statement}
 use Rattle.result.proofs.tell.Tie as tie
 
@@ -36,16 +34,11 @@ same-length-2 : tie.Need-same-length-2
 same-length-2 c = omega arith
 
 returns : tie.Need-returns
-unfolding markPlace
+unfolding withAnswer withMark markPlace
 returns c = (
-  c .begun .ensures .1,
-  λ r e h.
-      let row = c .before .before .before .before .before .before .before .before .before .before .before .before .args .row in
-      record {
-        answer = rw (← answer-image r row e h) (c .before .before .before .before .before .before .before .before .put-answer .ensures);
-        mark = rw (← mark-image r row e, ← c .before .before .before .before .mark .ensures) (c .before .before .before .put-u16 .ensures);
-        under = c .begun .ensures .0 ∙ begun-image r row e;
-      },
+  c .begun .ensures .0,
+  c .before .before .before .before .before .before .before .before .put-answer .ensures,
+  rw (← c .before .before .before .before .mark .ensures) (c .before .before .before .put-u16 .ensures),
 )
 
 pub tell-spec : {M : Type 1} → statement M

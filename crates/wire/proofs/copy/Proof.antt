@@ -6,9 +6,10 @@ use mathlib.Core.List.{List}
 use lib.ListN.{length, getD, take, drop}
 use lib.Seq.{take-all}
 use Rattle.spec.specs.Bytes.{byte}
+use Rattle.laws.specs.Codec.Parts.{byte-in}
 use Rattle.wire.specs.Over.{over}
 use Rattle.wire.specs.OverLaws.{over-none, over-next, length-over}
-use Rattle.wire.specs.Parts.{length-part, byte-part}
+use Rattle.wire.specs.Parts.{length-part}
 use Rattle.wire.proofs.copy.Statement.{statement}
 use Rattle.wire.proofs.copy.Tie as tie
 
@@ -49,7 +50,7 @@ loop-again c =
     let i = c .before .before .loop .i in
     let y : List ℕ = take (a .n) (drop (a .a) (a .from .now)) in
     let long : length y ≡ a .n = length-part (a .from .now) (a .a) (a .n) (omega arith) in
-    let here : getD y i 0 ≡ getD (a .from .now) (a .a + i) 0 = byte-part (a .from .now) (a .a) (a .n) i (omega arith) in
+    let here : getD y i 0 ≡ getD (a .from .now) (a .a + i) 0 = byte-in (a .n) (a .a) (a .from .now) i (omega arith) in
     (omega arith, rw (c .before .before .loop .inv .1) (rw here at (over-next y (a .to .now) (a .b) i (omega arith))))
 
 same-length : tie.Need-same-length Inv-loop μ-loop

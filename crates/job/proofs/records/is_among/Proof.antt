@@ -8,7 +8,8 @@ use Rattle.spec.specs.declared.Rec.{Rec}
 use Rattle.spec.specs.Basics.{isSome}
 use Rattle.spec.specs.File.{findIn}
 use Rattle.spec.specs.Decode.{pageOf}
-use Rattle.job.proofs.Calls.{records-count, among-more, among-hit}
+use Rattle.laws.specs.Codec.Pages.{records-count}
+use Rattle.job.proofs.Calls.{among-more, among-hit}
 use Rattle.job.proofs.records.is_among.Statement.{statement}
 use Rattle.job.proofs.records.is_among.Tie as tie
 

@@ -6,9 +6,9 @@ use Rattle.spec.specs.declared.Rec.{Rec}
 use Rattle.spec.specs.Job.{recordPlace}
 use Rattle.spec.specs.Decode.{pageOf}
 use Rattle.spec.specs.Check.{badRecord, recordFault}
+use Rattle.laws.specs.Codec.Pages.{records-count}
 use Rattle.job.specs.Records.{noRecord}
 use Rattle.job.proofs.Walk.{Clear, clear-none, clear-more, clear-hit, clear-all}
-use Rattle.job.proofs.Calls.{records-count}
 use Rattle.job.proofs.records.wrong_record_in.Statement.{statement}
 use Rattle.job.proofs.records.wrong_record_in.Tie as tie
 

@@ -1,6 +1,6 @@
 use mathlib.Core.Path.{sym, _∙_}
 use borrow.Author.Tests.{not-true, not-false}
-use Rattle.key.specs.Cases.{if-true, if-false}
+use Rattle.laws.specs.Tools.{if-true, if-false}
 use Rattle.turn.specs.Steps.{memLock}
 use borrow.Author.Needs.{needs}
 use Rattle.turn.proofs.Row.lock.Statement.{statement}

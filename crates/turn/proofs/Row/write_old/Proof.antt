@@ -1,6 +1,6 @@
 use mathlib.Core.Path.{sym, _∙_}
 use native.Mathlib.Omega.{arith}
-use Rattle.key.specs.Cases.{if-true, if-false}
+use Rattle.laws.specs.Tools.{if-true, if-false}
 use Rattle.turn.specs.Steps.{plan, memOld}
 use borrow.Author.Needs.{needs}
 use Rattle.turn.proofs.Row.write_old.Statement.{statement}

@@ -1,0 +1,147 @@
+-- The turns of an insert or a delete that locks a page or holds one, in memory as in the machine; all but those of a split.
+use mathlib.Core.Path.{_≡_, refl, ap, _∙_}
+use mathlib.Core.List.{List}
+use mathlib.Core.Bool.{true, false}
+use mathlib.Core.Option.{Option, none, some}
+use Prim.Native.Nat.{ℕ, suc, _+_}
+use native.Mathlib.Numerals.{add-one}
+use native.Mathlib.Omega.{arith}
+use lib.ListN.{length, getD, length-append}
+use lib.Dec.{ltb}
+use borrow.Author.Tests.{ltb-false}
+use Rattle.spec.specs.declared.Rec.{Rec}
+use Rattle.spec.specs.declared.Op.{Op}
+use Rattle.spec.specs.declared.Kind.{Kind}
+use Rattle.spec.specs.declared.Kind.the-variants.{Search, Insert, Delete}
+use Rattle.spec.specs.declared.Task.{Task}
+use Rattle.spec.specs.declared.Task.the-variants.{Verify, Release, Decide, WritePage, WriteOld, Unlock}
+use Rattle.spec.specs.declared.Stage.{Stage}
+use Rattle.spec.specs.declared.Stage.the-variants.{Lock, Held, Done}
+use Rattle.spec.specs.Basics.{if}
+use Rattle.spec.specs.Code.{alreadyThere, absent, noDepth, noPage}
+use Rattle.spec.specs.File.{Page, pageAt, entryAt, isNot, without}
+use Rattle.spec.specs.Job.{noOp}
+use Rattle.spec.specs.Split.{digit, added, allShare, splitCount}
+use Rattle.spec.specs.State.{State, Move, goLock}
+use Rattle.spec.specs.Turn.{homeOf, recOf, planOf, newCount, cleared, placed, decided, written, verified, heldTurn, turn}
+use Rattle.spec.specs.Run.{rowOf}
+use Rattle.spec.specs.Proper.{PageNo, In}
+use Rattle.laws.specs.Tools.{filter-le}
+use Rattle.laws.specs.Turns.Prefix.{fit-32}
+use Rattle.laws.specs.Turns.Shared.{allShare-least}
+use Rattle.laws.specs.Turns.Count.{split-count}
+use Rattle.laws.specs.Turns.Work.{WorkTask}
+use Rattle.memory.specs.Memory.{lockIn, withLocks, turnIn}
+use Rattle.turn.specs.declared.Row.{Row}
+use Rattle.turn.specs.Rows.{rowImage, moved}
+use Rattle.turn.specs.Steps.{Out, out, memLock, memVerified, memRefused, memTaken, memFull, memPlaced, memDecided, memWritten, memHeld, memTurn}
+use Rattle.simulation.specs.Shown.{shapeOf, Shown}
+use Rattle.simulation.specs.RowBack.{told}
+use Rattle.simulation.specs.Steady.{Steady}
+use Rattle.simulation.specs.Moves.{Turned, locked, taken, paged}
+use Rattle.simulation.specs.Reads.{picture-of, page-used, named-is}
+use Rattle.simulation.specs.Searching.{if-both, goes-on, tells}
+
+module _ (ops : List Op) (s : State) (i : ℕ) (w : List ℕ) (st : Steady ops s) (h : Shown s w) where
+  abbrev op : Op
+  op = getD ops i noOp
+
+  abbrev r : Row
+  r = rowImage (rowOf s i)
+
+  abbrev Does : Move → Out → Type 0
+  Does m o = Turned s i (turnIn w) m o
+
+  abbrev turned : Stage → Out
+  turned to = memTurn (shapeOf (s .file)) op (s .now) r w to
+
+  -- a page is locked, or unlocked
+  pub on-lock : (x : ℕ) → PageNo (s .file) x → getD (s .locks) x false ≡ false → Does (turn s op (Lock x)) (turned (Lock x))
+  unfolding turn memTurn memLock digit if
+  on-lock x n e =
+      let z : lockIn w x ≡ 0 = h .locks x (omega (arith, st .good .fit .within)) ∙ ap digit e in
+      rw z (locked ops s i w (st .good) (picture-of s w h) (Held x Verify) x 1 true (omega (arith, st .good .fit .within)))
+
+  unlocks : (x : ℕ) (to : Stage) → PageNo (s .file) x → Does (goLock to x 1 false 0) (out (moved r to) (withLocks w x 1 0))
+  unfolding digit
+  unlocks x to n = locked ops s i w (st .good) (picture-of s w h) to x 1 false (omega (arith, st .good .fit .within))
+
+  on-verify : (x : ℕ) → Does (verified s op x) (memVerified (shapeOf (s .file)) op r w x)
+  unfolding verified memVerified
+  on-verify x = rw (named-is ops s w st h op) (if-both Does (λ e. goes-on ops s i w st h _) (λ e. goes-on ops s i w st h _))
+
+  -- turn (d)
+  on-placed
+      : (x : ℕ)
+      → PageNo (s .file) x
+      → entryAt (s .file) (homeOf (s .file) op) ≡ x
+      → Does (placed s op x (pageAt (s .file) x)) (memPlaced (shapeOf (s .file)) op (s .now) r w x (pageAt (s .file) x))
+  unfolding placed memPlaced memFull memRefused memTaken newCount planOf homeOf
+  on-placed x n e =
+      if-both Does (λ a. goes-on ops s i w st h _)
+      (λ a.
+      rw (allShare-least (s .file .g) (p .records) (op .call) (fit-32 (s .file) (st .good .fit)), h .used)
+      (if-both Does (λ b. tells ops s i w st h _ noDepth 0 (s .now))
+      (λ b.
+      rw (count a (allShare-least (s .file .g) (p .records) (op .call) (fit-32 (s .file) (st .good .fit)) ∙ b))
+      (if-both Does (λ c. tells ops s i w st h _ noPage 0 (s .now))
+      (λ c.
+      rw add-one
+      (let u = ltb-false (s .file .limit) (s .file .used + splitCount p (op .call)) c in
+      taken ops s i w (st .good) (picture-of s w h) _ (suc (s .file .used)) _ (omega arith) (omega arith)))))))
+    where
+      p : Page
+      p = pageAt (s .file) x
+
+      here : In p (op .call)
+      here = rw e at (st .tidy .home (op .call))
+
+      count
+          : ltb (length (p .records)) (s .file .c) ≡ false
+          → allShare (s .file .g) (p .records) (op .call) ≡ false
+          → newCount (s .file) op x ≡ splitCount p (op .call)
+      count a b =
+          split-count (s .file .g) (s .file .c) p (recOf op) (st .good .fit .depth) (st .tidy .pages x) here (ltb-false _ _ a) b
+
+  on-decide
+      : (x : ℕ) (k : Kind) (o : Option Rec)
+      → PageNo (s .file) x
+      → entryAt (s .file) (homeOf (s .file) op) ≡ x
+      → Does (decided s op x k o) (memDecided (shapeOf (s .file)) op (s .now) r w x k o)
+  unfolding decided memDecided memRefused
+  on-decide x Search o n e = goes-on ops s i w st h _
+  on-decide x Insert none n e = rw (page-used ops s w st h x n) (on-placed x n e)
+  on-decide x Insert (some c) n e = tells ops s i w st h _ alreadyThere (c .charge) (s .now)
+  on-decide x Delete none n e = tells ops s i w st h _ absent 0 (s .now)
+  on-decide x Delete (some c) n e = goes-on ops s i w st h _
+
+  -- the page is written
+  on-write
+      : (x : ℕ) (k : Kind)
+      → op .kind ≡ k
+      → PageNo (s .file) x
+      → WorkTask (s .file) op x WritePage
+      → Does (written s op x k (pageAt (s .file) x)) (memWritten (shapeOf (s .file)) op (s .now) r w x k (pageAt (s .file) x))
+  unfolding written memWritten told added cleared without
+  on-write x Search e n t = goes-on ops s i w st h _
+  on-write x Insert e n t =
+      paged ops s i w (st .good) (picture-of s w h) _ _ x _ (omega (arith, st .good .fit .within))
+      (rw length-append (omega (arith, t .1 e .1)))
+  on-write x Delete e n t =
+      paged ops s i w (st .good) (picture-of s w h) _ _ x _ (omega (arith, st .good .fit .within))
+      (let l = filter-le (isNot (op .call)) (pageAt (s .file) x .records) in omega (arith, st .tidy .pages x .room))
+
+  -- an operation that holds page x; the writing of a split's old page is given
+  pub on-held
+      : (x : ℕ) (t : Task)
+      → (t ≡ WriteOld → Does (turn s op (Held x t)) (turned (Held x t)))
+      → PageNo (s .file) x
+      → WorkTask (s .file) op x t
+      → Does (turn s op (Held x t)) (turned (Held x t))
+  unfolding turn memTurn heldTurn memHeld
+  on-held x Verify old n k = on-verify x
+  on-held x (Release y) old n k = unlocks x (Lock y) n
+  on-held x Decide old n k = rw (page-used ops s w st h x n) (on-decide x _ _ n k)
+  on-held x WritePage old n k = rw (page-used ops s w st h x n) (on-write x _ refl n k)
+  on-held x WriteOld old n k = old refl
+  on-held x Unlock old n k = unlocks x Done n

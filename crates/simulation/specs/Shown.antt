@@ -1,0 +1,37 @@
+-- A working memory that shows a state of the machine: what is read of it is what the state has.
+use Prim.Native.Nat.{ℕ, zero, suc, _+_, _^_, _≤_, _<_}
+use mathlib.Core.Path.{_≡_}
+use mathlib.Core.List.{List, [], _∷_}
+use mathlib.Core.Bool.{Bool, true, false}
+use lib.ListN.{length, getD}
+use Rattle.spec.specs.Key.{begins}
+use Rattle.spec.specs.File.{File, pageAt, entryAt}
+use Rattle.spec.specs.Encode.{pageBytes}
+use Rattle.spec.specs.Split.{digit}
+use Rattle.spec.specs.State.{State}
+use Rattle.spec.specs.Run.{rowOf}
+use Rattle.spec.specs.Check.{workSize}
+use Rattle.laws.specs.Turns.Slots.{Slots}
+use Rattle.memory.specs.declared.Shape.{Shape}
+use Rattle.memory.specs.Memory.{entryIn, lockIn, usedIn, turnIn, partIn}
+use Rattle.turn.specs.declared.Row.{Row}
+use Rattle.turn.specs.Rows.{rowImage}
+use Rattle.turn.specs.Steps.{Out}
+
+-- the shape of a file
+abbrev pub shapeOf : File → Shape
+shapeOf f = record { depth = f .g; capacity = f .c; pages = f .limit }
+
+pub record Shown (s : State) (w : List ℕ) : Type 0 where
+  pub long : workSize ≤ length w
+  pub entries : (j : ℕ) → j < 2 ^ s .file .g → entryIn w j ≡ entryAt (s .file) j
+  pub locks : (x : ℕ) → x ≤ s .file .limit → lockIn w x ≡ digit (getD (s .locks) x false)
+  pub used : usedIn w ≡ s .file .used
+  pub pages : (x : ℕ) → 1 ≤ x → x ≤ s .file .limit → partIn (s .file .c) w x ≡ pageBytes (s .file .c) (pageAt (s .file) x)
+  -- the turn of a change stands under the entry and the depth of the page that it left
+  pub turns : Slots (turnIn w) s
+
+-- what a turn leaves is a state of the machine, for operation i
+pub record Meets (s : State) (i : ℕ) (o : Out) : Type 0 where
+  pub shown : Shown s (o .work)
+  pub row : o .row ≡ rowImage (rowOf s i)
