@@ -1,5 +1,5 @@
--- A store to the first lent number, and what each case of a check hands over.
-use Prim.Native.Nat.{ℕ, zero, suc, _<_, _≤_}
+-- A store to the first lent number, and what each case of a check and of a run hands over.
+use Prim.Native.Nat.{ℕ, _<_, _≤_}
 use mathlib.Core.Path.{_≡_, refl, sym, ap, _∙_}
 use mathlib.Core.List.{List, [], _∷_}
 use native.Mathlib.Omega.{arith}
@@ -7,7 +7,7 @@ use lib.ListN.{length, set}
 use Rattle.spec.specs.declared.Checked.{Checked}
 use Rattle.spec.specs.declared.Checked.the-variants.{Accepted, Refused}
 use Rattle.spec.specs.declared.Outcome.{Outcome}
-use Rattle.spec.specs.declared.Outcome.the-variants.{Ran, Refused as Turned}
+use Rattle.turn.specs.declared.Row.{Row}
 use Rattle.run.specs.Call.{Settled}
 use Rattle.chargefile.specs.Refusal.{numberFor, placeIn, placesAfter, numberOf, placeOf}
 use Rattle.chargefile.specs.Called.{Called}
@@ -35,16 +35,23 @@ pub told-refused
 unfolding numberFor placesAfter
 told-refused a b n p s t e h u = (ap numberFor (sym h ∙ e), u ∙ ap (λ (c : Checked). placesAfter c s) (sym h ∙ e))
 
--- a run's outcome, of either case, handed over
+-- the outcome o, which is c
+pub told-outcome
+    : {o c : Outcome} (s : List ℕ) {t : List ℕ}
+    → o ≡ c
+    → t ≡ placeIn s (placeOf c)
+    → (numberOf c ≡ numberOf o) × (t ≡ placeIn s (placeOf o))
+told-outcome s e u = (ap numberOf (sym e), u ∙ ap (λ (v : Outcome). placeIn s (placeOf v)) (sym e))
+
+-- a run's outcome, handed over
 pub called
-    : {b s t : List ℕ} {x y : List (List ℕ)} {w u p q : List ℕ} (o o' : Outcome)
+    : {b s t : List ℕ} {x y : List Row} {w u p q : List ℕ} {r : ℕ} (o : Outcome)
     → Settled b s t x y w u o
-    → o ≡ o'
-    → q ≡ placeIn p (placeOf o')
-    → Called b s t x y w u p q (numberOf o')
-called {p = p} o o' h e z =
+    → (r ≡ numberOf o) × (q ≡ placeIn p (placeOf o))
+    → Called b s t x y w u p q r
+called {p = p} o h z =
     record {
       run = record { answer = refl; result = h .result; rows = h .rows; work = h .work; fixed = h .fixed; explained = h .explained };
-      number = ap numberOf (sym e ∙ h .answer);
-      places = z ∙ ap (λ (v : Outcome). placeIn p (placeOf v)) (sym e ∙ h .answer);
+      number = z .0 ∙ ap numberOf (h .answer);
+      places = z .1 ∙ ap (λ (v : Outcome). placeIn p (placeOf v)) (h .answer);
     }

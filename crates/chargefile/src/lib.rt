@@ -1,10 +1,11 @@
 // The library for C and Rust programs: include/chargefile.h says how to call it.
 use spec::Checked;
 use spec::Outcome;
+use turn::Row;
 ghost use mathlib.Core.Path.{_≡_};
 ghost use Rattle.spec.specs.Check.{jobFault};
 ghost use Rattle.spec.specs.Cases.{checkedOf};
-ghost use Rattle.chargefile.specs.Refusal.{numberFor, placesAfter, placeIn};
+ghost use Rattle.chargefile.specs.Refusal.{numberFor, placesAfter, placeIn, numberOf, placeOf};
 ghost use Rattle.chargefile.specs.Called.{Called};
 
 // The place goes into the first lent number, if one is lent.
@@ -31,19 +32,10 @@ pub extern "C" fn chargefile_check(job: &[u8], places: &mut [u64]) -> u64
     }
 }
 
-// A job checked and run: 0, and the length of its result in `places`; or the number of its refusal, and its place there. `rows` has a row for
-// each operation, `memory` at least 24,576 bytes; a refused job has written to none of `result`, `rows` and `memory`.
-#[no_mangle]
-pub extern "C" fn chargefile_run(
-    job: &[u8],
-    result: &mut [u8],
-    rows: &mut [[u16; 10]],
-    memory: &mut [u8],
-    places: &mut [u64],
-) -> u64
-    ensures { λ r. ⌜ Called (now (job .entry)) (now (result .entry)) (now (result .exit)) (now (rows .entry)) (now (rows .exit)) (now (memory .entry)) (now (memory .exit)) (now (places .entry)) (now (places .exit)) r ⌝ }
+// The number of an outcome, 0 for a run; its place, or the length of the result, goes into the first lent number.
+fn told(o: Outcome, places: &mut [u64]) -> u64
+    ensures { λ r. ⌜ (r ≡ numberOf o) × (now (places .exit) ≡ placeIn (now (places .entry)) (placeOf o)) ⌝ }
 {
-    let o = run::run(job, result, rows, memory);
     match o {
         Outcome::Ran(length) => {
             put_place(places, length);
@@ -54,4 +46,20 @@ pub extern "C" fn chargefile_run(
             number as u64
         }
     }
+}
+
+// A job checked and run: 0, and the length of its result in `places`; or the number of its refusal, and its place there. `rows` has a row for
+// each operation, `memory` at least 24,576 bytes; a refused job has written to none of `result`, `rows` and `memory`.
+#[no_mangle]
+pub extern "C" fn chargefile_run(
+    job: &[u8],
+    result: &mut [u8],
+    rows: &mut [Row],
+    memory: &mut [u8],
+    places: &mut [u64],
+) -> u64
+    ensures { λ r. ⌜ Called (now (job .entry)) (now (result .entry)) (now (result .exit)) (now (rows .entry)) (now (rows .exit)) (now (memory .entry)) (now (memory .exit)) (now (places .entry)) (now (places .exit)) r ⌝ }
+{
+    let o = run::run(job, result, rows, memory);
+    told(o, places)
 }

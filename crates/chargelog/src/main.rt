@@ -35,9 +35,8 @@ fn text_of(job: &[u8], text: &mut [u8]) -> usize
     ensures { λ n. ⌜ Says (now (job .entry)) (now (text .exit)) n ⌝ }
 {
     let mut result = [0u8; 21048];
-    let mut rows = [[0u16; 10]; 256];
     let mut work = [0u8; 24576];
-    let p = print::print(job, &mut result, &mut rows, &mut work, text);
+    let p = print::print(job, &mut result, &mut work, text);
     match p {
         Printed::Text(n) => n,
         Printed::NoRoom => 0,

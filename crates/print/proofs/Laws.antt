@@ -1,40 +1,32 @@
--- What a call of `run` tells: that the job ran, and its result stands in the buffer; or that it was refused, and why.
-use mathlib.Core.Path.{_≡_, refl, sym, ap, _∙_}
-use mathlib.Core.List.{List, [], _∷_, _++_}
+-- What a call of `run` tells: that the job ran, and its result stands in the buffer; or that it was refused, and why. And of a table that was blank, that it is blank again.
+use mathlib.Core.Path.{_≡_, refl, sym, ap, subst, _∙_}
+use mathlib.Core.List.{List, _++_}
 use mathlib.Core.Option.{Option, none, some}
-use Prim.Native.Nat.{ℕ, suc, _+_, _≤_, _<_}
+use Prim.Native.Nat.{ℕ, _≤_}
 use native.Mathlib.Omega.{arith}
-use lib.ListN.{length, getD, take, drop, length-append}
+use lib.ListN.{length, take, drop, replicate, length-append}
 use lib.Seq.{take-at, take-all}
 use Rattle.spec.specs.declared.Outcome.{Outcome}
 use Rattle.spec.specs.declared.Outcome.the-variants.{Ran, Refused}
-use Rattle.spec.specs.Bytes.{AreBytes, end, next}
+use Rattle.spec.specs.Bytes.{AreBytes}
 use Rattle.spec.specs.Decode.{jobOf}
 use Rattle.spec.specs.Result.{result}
 use Rattle.spec.specs.Check.{Fault, jobFault, firstFault}
-use Rattle.spec.specs.Outcome.{resultBytes, outcomeBy, outcome, afterRun, bufferAfter}
+use Rattle.spec.specs.Outcome.{resultBytes, outcomeBy, outcome, afterRun, bufferAfter, rowsAfter}
 use Rattle.spec.specs.Report.{refusedLine, printedBy, printed}
 use Rattle.laws.specs.Codec.Tools.{orElse-none}
 use Rattle.wire.specs.Wrote.{Wrote}
 use Rattle.wire.specs.WroteLaws.{kept}
-use Rattle.wire.specs.Parts.{part-over}
 use Rattle.report.specs.Read.{reportOf}
 use Rattle.report.specs.Sound.{Sound}
 use Rattle.report.specs.Fits.{ResultFits}
 use Rattle.report.specs.Right.{report-sound}
-use Rattle.report.specs.Printed.{report-printed}
+use Rattle.report.specs.Printed.{front, report-printed}
+use Rattle.turn.specs.declared.Row.{Row}
+use Rattle.turn.specs.Rows.{blankRow}
 use Rattle.run.specs.Call.{lent, Settled}
+use Rattle.print.specs.Table.{fullTable}
 use Rattle.print.specs.Fits.{accepted-result-fits}
-
-pub are-bytes : (b : List ℕ) → ((k : ℕ) → getD b k 0 < 256) → AreBytes b
-are-bytes [] h = end
-are-bytes (x ∷ b) h = next (h 0) (are-bytes b (λ k. h (suc k)))
-
--- a text written at the front of a buffer with room for it
-front : {k n : ℕ} {s x t : List ℕ} → k ≤ length s → Wrote k s 0 x t n → take n t ≡ x
-front {k} {n} {s} {x} {t} h w =
-    let e : length x ≡ n = omega (arith, w .stop) in
-    ap (take n) (w .bytes) ∙ part-over s x 0 n e (omega (arith, w .near))
 
 pub within : {k n : ℕ} {s x t : List ℕ} → Wrote k s 0 x t n → k ≤ length s → n ≤ length t
 within w h = omega (arith, w .near, kept w)
@@ -50,7 +42,21 @@ unfolding outcomeBy
 refused-by none b n p e = let z : _≡_ {A = ℕ} 0 1 = cc in absurd (omega arith)
 refused-by (some f) b n p e = let z : n ≡ f .number = cc in let q : p ≡ f .place = cc in rw (z, q)
 
-module _ {b s t : List ℕ} {x y : List (List ℕ)} {w u : List ℕ} {r : Outcome} (call : Settled b s t x y w u r) where
+-- A TABLE THAT WAS BLANK IS BLANK AGAIN, whether the job ran or was refused
+blank-again : (o : Option Fault) → afterRun o fullTable (replicate (length fullTable) blankRow) ≡ fullTable
+unfolding afterRun
+blank-again none = refl
+blank-again (some f) = refl
+
+pub settled-here
+    : {b s t : List ℕ} {y : List Row} {w u : List ℕ} {r : Outcome}
+    → Settled b s t fullTable y w u r
+    → Settled b s t fullTable fullTable w u r
+unfolding rowsAfter
+settled-here {b} {s} {t} {y} {w} {u} {r} call =
+    subst (λ (z : List Row). Settled b s t fullTable z w u r) (call .rows ∙ blank-again (firstFault (lent s fullTable w) b)) call
+
+module _ {b s t : List ℕ} {x y : List Row} {w u : List ℕ} {r : Outcome} (call : Settled b s t x y w u r) where
   -- A JOB THAT RAN: n bytes of result
   module _ {n : ℕ} (ran : r ≡ Ran n) where
     cases : (firstFault (lent s x w) b ≡ none) × (n ≡ length (resultBytes b))

@@ -1,84 +1,38 @@
--- The turns are over and all operations are told: what finishing asks is there, and what it writes is the job's result.
-use mathlib.Core.Path.{_≡_, refl, sym, ap, _∙_}
-use mathlib.Core.Logic.{inl, inr, by-cases}
-use mathlib.Core.List.{List, [], _∷_, _++_, map}
+-- The turns are over and all operations are told: what closing asks is there, and what it writes is the job's result.
+use mathlib.Core.Path.{_≡_, sym, ap, _∙_}
+use mathlib.Core.Logic.{by-cases}
+use mathlib.Core.List.{List, _++_}
 use mathlib.Core.Option.{Option}
-use Prim.Native.Nat.{ℕ, zero, suc, _+_, _*_, _^_, _≤_, _<_}
+use Prim.Native.Nat.{ℕ, zero, suc, _+_, _^_, _≤_, _<_}
+use native.Mathlib.Numerals.{add-one}
 use native.Mathlib.Decide.{ℕ-discrete}
 use native.Mathlib.Omega.{arith}
-use lib.ListN.{length, getD, take, drop, length-map}
-use lib.Pow.{pow-mono}
-use borrow.Author.Tests.{eqb-false}
+use lib.ListN.{length, getD, drop}
 use Rattle.spec.specs.declared.Rec.{Rec}
 use Rattle.spec.specs.declared.Op.{Op}
-use Rattle.spec.specs.Basics.{if, each}
-use Rattle.spec.specs.Bytes.{byte, word, two}
 use Rattle.spec.specs.Code.{notYet}
-use Rattle.spec.specs.Job.{opsOffset, tableOffset, fileLength}
 use Rattle.spec.specs.Decode.{jobOf}
-use Rattle.spec.specs.State.{Row as State-Row, State, gone}
+use Rattle.spec.specs.State.{State, gone}
 use Rattle.spec.specs.Run.{rowOf, run}
-use Rattle.spec.specs.Result.{toldOf, answerBytes, resultOf, result, encodeResult}
+use Rattle.spec.specs.Result.{resultOf, result}
 use Rattle.spec.specs.Check.{workSize, resultSize}
-use Rattle.spec.specs.Proper.{Fit}
 use Rattle.spec.specs.Claims.{stateAt}
-use Rattle.laws.specs.Tools.{if-case}
-use Rattle.laws.specs.Codec.Tools.{every}
-use Rattle.laws.specs.Codec.Parts.{length-each}
-use Rattle.laws.specs.Codec.Sizes.{length-result}
+use Rattle.spec.specs.Outcome.{resultBytes}
 use Rattle.laws.specs.Room.{run-shaped}
 use Rattle.laws.specs.Turns.Says.{Says, isFound, isNone, isStored, isThere, isDeleted, isAbsent, isNoDepth, isNoPage}
 use Rattle.laws.specs.Turns.States.{stateAt-end, run-now}
 use Rattle.laws.specs.Turns.Whole.{Whole, end-whole}
-use Rattle.laws.specs.Turns.Fields.{answered-moment, moment-at}
 use Rattle.header.specs.declared.Header.{Header}
 use Rattle.header.specs.Counts.{countsOf}
-use Rattle.wire.specs.Over.{over}
-use Rattle.wire.specs.OverLaws.{length-over, over-parts, drop-over}
-use Rattle.wire.specs.Reads.{word-same, word-over, word-two}
-use Rattle.wire.specs.Parts.{part-over}
-use Rattle.memory.specs.Memory.{placeOf}
-use Rattle.memory.specs.Beside.{Beside, beside, entry-kept, used-kept, part-kept}
-use Rattle.turn.specs.Shown.{Shown}
-use Rattle.result.specs.Marks.{markOf, markPlace, Marks, markNumber}
-use Rattle.result.specs.Lines.{Logged}
+use Rattle.turn.specs.Rows.{rowImage, blankRow}
+use Rattle.simulation.specs.Shown.{Shown}
 use Rattle.result.specs.Finish.{FileShown, Ready, Finished}
+use Rattle.result.specs.Image.{tells}
+use Rattle.result.specs.Telling.{Telling, none-told, one-told, ready, buffer}
+use Rattle.table.specs.Turns.{Both}
+use Rattle.table.specs.Told.{Told, told, tellRow, tellRows}
 use Rattle.run.specs.Table.{Accepts, Running}
-use Rattle.run.specs.Told.{Table, answerOf, markBytes, AllTold}
 use Rattle.run.proofs.Known.{proper, heads, ops-are, turns-are, depth-is, capacity-is, pages-are}
-use Rattle.run.proofs.Telling.{length-answer, length-mark}
-
--- ---- marks, read where they were written
-
-behind : (a : ℕ) (z : List ℕ) (i : ℕ) → word (two a ++ z) (2 * suc i) ≡ word z (2 * i)
-unfolding byte two
-behind a z i = word-same (two a ++ z) z (2 * suc i) (2 * i) (λ j l. let e : 2 * suc i + j ≡ suc (suc (2 * i + j)) = omega arith in rw e)
-
-mark-read
-    : (rs : List State-Row) (i : ℕ)
-    → i < length rs
-    → markOf (getD rs i gone) < 65536
-    → word (each markBytes rs) (2 * i) ≡ markOf (getD rs i gone)
-unfolding each markBytes
-mark-read [] i l h = absurd (omega arith)
-mark-read (r ∷ rs) zero l h = word-two (markOf r) (each markBytes rs) h
-mark-read (r ∷ rs) (suc i) l h = behind (markOf r) (each markBytes rs) i ∙ mark-read rs i (omega arith) h
-
-each-told : (rs : List State-Row) → each answerOf rs ≡ each answerBytes (map toldOf rs)
-unfolding each answerOf
-each-told [] = refl
-each-told (r ∷ rs) = ap (λ (l : List ℕ). answerBytes (toldOf r) ++ l) (each-told rs)
-
--- bytes written over again
-over-again : (s x y : List ℕ) (at : ℕ) → at + length x ≤ length y → length y ≤ length s → over (over s at x) 0 y ≡ over s 0 y
-over-again s x y at h l =
-    let z : 0 + length y ≤ length s = omega arith in
-    over-parts y (over s at x) 0 (rw (length-over s at x) z) ∙ rw (drop-over x s at (0 + length y) (omega arith)) (sym (over-parts y s 0 z))
-
--- the answers have room
-pub room : (h : Header) (x : List ℕ) → resultSize (countsOf h) ≤ length x → 24 + 8 * h .ops ≤ length x
-unfolding resultSize
-room h x long = omega arith
 
 -- an answer's code is one of eight
 code-of : {op : Op} {a b : Option Rec} {k c : ℕ} → Says op a b k c → k < 256
@@ -113,94 +67,68 @@ module _ {h : Header} {b : List ℕ} (a : Accepts h b) where
   turns-few : s .now ≤ 16384
   turns-few = omega (arith, run-now (jobOf b), proper a .turnCount)
 
-  mark-small : (i : ℕ) → markOf (rowOf s i) < 65536
-  unfolding markOf markNumber
-  mark-small i =
-      if-case (λ n. n < 65536) (λ e. omega arith)
-      (λ e. omega (arith, moment-past i (eqb-false _ _ e), turns-few))
-
-  module _ {rows : List (List ℕ)} {w : List ℕ} (r : Running b (h .turns) rows w) where
-    pub tables : Table (h .ops) (s .rows) rows
-    unfolding rowOf
-    tables =
-        record {
-          count = rows-are;
-          room = rw (ops-are a) at (r .room);
-          row = λ q l. sym (rw ended at (r .table q (rw (ops-are a) l)));
-          code = λ q l. code-small q;
-        }
-
-    shown : Shown s w
+  module _ {o : Both} (r : Running b (h .turns) o) where
+    shown : Shown s (o .work)
     shown = rw ended at (r .shown)
 
-    module _ {x t u : List ℕ} {v : ℕ} (o : AllTold (s .rows) x t w u v) (long : resultSize (countsOf h) ≤ length x) where
-      marks-long : length (each markBytes (s .rows)) ≡ 2 * h .ops
-      marks-long = length-each markBytes 2 (s .rows) (every length-mark (s .rows)) ∙ ap (λ n. 2 * n) rows-are
+    row-is : (i : ℕ) → i < h .ops → rowImage (getD (s .rows) i gone) ≡ getD (o .rows) i blankRow
+    unfolding rowOf
+    row-is i l = sym (rw ended at (r .table i (rw (ops-are a) l)))
 
-      answers-long : length (each answerOf (s .rows)) ≡ 8 * h .ops
-      answers-long = length-each answerOf 8 (s .rows) (every length-answer (s .rows)) ∙ ap (λ n. 8 * n) rows-are
+    -- the first i operations are told
+    module _ (x : List ℕ) where
+      abbrev TellingBy : ℕ → Told → Type 0
+      TellingBy i q = Telling (s .rows) i x (o .work) (q .result) (q .work) (q .under)
 
-      kept : Beside 1026 (2 * h .ops) w u
-      kept = rw (o .marks) (beside w (each markBytes (s .rows)) 1026 (2 * h .ops) marks-long)
+      one-more : (i : ℕ) (q : Told) → i < h .ops → TellingBy i q → TellingBy (suc i) (tellRow (getD (o .rows) i blankRow) i q)
+      unfolding tellRow rowOf
+      one-more i q l t =
+          let w : workSize ≤ length (q .work) = omega (arith, shown .long, t .rest .size) in
+          rw (add-one i) at
+          (one-told (omega (arith, rows-are)) (omega (arith, heads a .limits .ops)) w (λ n. omega (arith, moment-past i n, turns-few)) t
+          (tells (getD (s .rows) i gone) (getD (o .rows) i blankRow) i (q .result) (q .work) (row-is i l) (code-small i)))
 
-      marks : Marks (s .rows) u
-      unfolding markPlace rowOf
-      marks =
-          record {
-            at = λ i l.
-                rw (o .marks)
-                (word-over (each markBytes (s .rows)) w 1026 (2 * i) (omega (arith, marks-long, rows-are)) (omega (arith, marks-long, shown .long, heads a .limits .ops))
-                ∙ mark-read (s .rows) i l (mark-small i));
-          }
+      telling : (i : ℕ) → i ≤ h .ops → TellingBy i (tellRows (o .rows) i (told x (o .work) 0))
+      unfolding tellRows
+      telling zero l = none-told (s .rows) x (o .work)
+      telling (suc i) l = one-more i (tellRows (o .rows) i (told x (o .work) 0)) (omega arith) (telling i (omega arith))
 
-      logged : Logged (s .rows) (s .now) u (h .ops)
-      unfolding rowOf
-      logged = record { count = rows-are; marks = marks; past = λ i l n. moment-past i n; turns = omega (arith, turns-few) }
+    file : FileShown (s .file) (h .depth) (h .capacity) (h .pages) (o .work)
+    file =
+        let z = run-shaped (jobOf b) in
+        let f = whole .good .fit in
+        let deep : s .file .g ≡ h .depth = z .depth ∙ depth-is a in
+        let size : s .file .c ≡ h .capacity = z .capacity ∙ capacity-is a in
+        let many : s .file .limit ≡ h .pages = z .limit ∙ pages-are a in
+        record {
+          depth = deep;
+          capacity = size;
+          limit = many;
+          used = shown .used;
+          entries = λ j l. shown .entries j (rw deep l);
+          pages = λ y l k. rw size at (shown .pages y l (rw many k));
+          directory = f .size ∙ ap (λ (n : ℕ). 2 ^ n) deep;
+          table = f .pages ∙ ap suc many;
+        }
 
-      file : FileShown (s .file) (h .depth) (h .capacity) (h .pages) u
-      unfolding placeOf
-      file =
-          let z = run-shaped (jobOf b) in
-          let q = heads a .limits in
-          let f = whole .good .fit in
-          let deep : s .file .g ≡ h .depth = z .depth ∙ depth-is a in
-          let size : s .file .c ≡ h .capacity = z .capacity ∙ capacity-is a in
-          let many : s .file .limit ≡ h .pages = z .limit ∙ pages-are a in
-          let m = pow-mono {i = h .depth} {j = 8} (q .depth) in
-          record {
-            depth = deep;
-            capacity = size;
-            limit = many;
-            used = used-kept kept (inl (omega arith)) ∙ shown .used;
-            entries = λ j l. entry-kept kept j (inl (omega arith)) ∙ shown .entries j (rw deep l);
-            pages = λ y l k.
-                part-kept kept (record { size = shown .long; capacity = q .capacity .1; number = omega (arith, q .pages .1) }) (inr (omega (arith, q .ops)))
-                ∙ rw size at (shown .pages y l (rw many k));
-            directory = f .size ∙ ap (λ n. 2 ^ n) deep;
-            table = f .pages ∙ ap suc many;
-          }
+    module _ (x : List ℕ) (long : resultSize (countsOf h) ≤ length x) {q : Told} (e : q ≡ tellRows (o .rows) (h .ops) (told x (o .work) 0)) where
+      all : Telling (s .rows) (h .ops) x (o .work) (q .result) (q .work) (q .under)
+      all = rw e (telling x (h .ops) (omega arith))
 
-      pub ready : Ready s (h .depth) (h .capacity) (h .pages) (h .ops) v t u
-      ready =
-          record {
-            answers = rw (o .answers, ← each-told (s .rows)) (part-over x (each answerOf (s .rows)) 24 (8 * h .ops) answers-long (room h x long));
-            logged = logged;
-            unended = sym (o .under);
-            file = file;
-          }
+      pub told-sizes : (length (q .result) ≡ length x) × (length (q .work) ≡ length (o .work))
+      told-sizes = (all .size, all .rest .size)
 
-      -- what finishing writes, of the buffer as it was before the answers were told
-      pub closed : {y : List ℕ} {n : ℕ} → Finished (resultOf s) t y n → Finished (result (jobOf b)) x y n
-      unfolding result resultOf
-      closed {y} {n} f =
-          let e : length t ≡ length x = ap length (o .answers) ∙ length-over x 24 (each answerOf (s .rows)) in
-          let k = length-result (resultOf s) in
-          record {
-            bytes =
-                f .bytes
-                ∙ rw (o .answers)
-                (over-again x (each answerOf (s .rows)) (encodeResult (resultOf s)) 24
-                (omega (arith, answers-long, k, length-map (s .rows) toldOf, rows-are)) (omega (arith, f .total, f .fits, e)));
-            total = f .total;
-            fits = omega (arith, f .fits, e);
-          }
+      pub is-ready : Ready s (h .depth) (h .capacity) (h .pages) (h .ops) (q .under) (q .result) (q .work)
+      unfolding resultSize rowOf
+      is-ready =
+          let l = heads a .limits in
+          ready s rows-are all (omega (arith, long)) (shown .long) (l .depth) (l .capacity .1) (l .pages .1) file (λ i k n. moment-past i n)
+          (omega (arith, turns-few))
+
+      -- what closing writes, of the buffer as it was before the answers were told
+      pub closed
+          : {y : List ℕ} {v : ℕ}
+          → Finished (resultOf s) (q .result) y v
+          → (v ≡ length (resultBytes b)) × (v ≤ length x) × (y ≡ resultBytes b ++ drop (length (resultBytes b)) x)
+      unfolding resultBytes result
+      closed f = (f .total, omega (arith, f .fits, all .size), buffer s rows-are all f)

@@ -1,82 +1,117 @@
--- What a call comes to: refused by the job's own bytes, refused because too little is lent, or run.
-use mathlib.Core.Path.{_≡_, refl, _∙_}
+-- What a call comes to: refused, with nothing written, or run.
+use mathlib.Core.Path.{_≡_, refl, sym}
+use mathlib.Core.Bool.{true, false}
 use mathlib.Core.List.{List}
 use mathlib.Core.Option.{Option, none, some}
-use Prim.Native.Nat.{ℕ, _+_, _≤_}
+use Prim.Native.Nat.{ℕ, _≤_}
 use native.Mathlib.Omega.{arith}
 use lib.ListN.{length}
 use Rattle.spec.specs.declared.Spot.the-variants.{At, Nowhere}
-use Rattle.spec.specs.declared.Outcome.the-variants.{Ran as RanFor, Refused}
+use Rattle.spec.specs.declared.Checked.the-variants.{Accepted as AcceptedBy, Refused as RefusedBy}
+use Rattle.spec.specs.declared.Outcome.the-variants.{Ran as RanFor}
 use Rattle.spec.specs.Basics.{orElse}
-use Rattle.spec.specs.Decode.{headerOf, jobOf}
-use Rattle.spec.specs.Result.{result}
-use Rattle.spec.specs.Check.{Fault, smallOutput, numbered, jobFault, firstFault}
-use Rattle.spec.specs.Cases.{spotOf}
-use Rattle.spec.specs.Outcome.{resultBytes, outcomeBy, outcome, afterRun, bufferAfter, rowsAfter, workAfter}
+use Rattle.spec.specs.Decode.{headerOf}
+use Rattle.spec.specs.Check.{Lent, Fault, workSize, resultSize, smallOutput, numbered, jobFault, firstFault}
+use Rattle.spec.specs.Cases.{spotOf, checkedOf}
+use Rattle.spec.specs.Outcome.{outcomeBy, outcome, afterRun, bufferAfter, rowsAfter, workAfter}
 use Rattle.laws.specs.Codec.Tools.{failed, among-none, among-end}
 use Rattle.laws.specs.Demand3.{demand3}
-use Rattle.wire.specs.Over.{over}
-use Rattle.wire.specs.OverLaws.{over-parts}
 use Rattle.header.specs.declared.Header.{Header}
 use Rattle.header.specs.Counts.{countsOf}
-use Rattle.result.specs.Finish.{Finished}
-use Rattle.run.specs.Table.{zero-row}
-use Rattle.run.specs.Call.{lent, Enough, Ran, Settled}
+use Rattle.turn.specs.declared.Row.{Row}
+use Rattle.simulation.specs.RowBack.{blank-row}
+use Rattle.run.specs.Answer.{isAccepted, refusedBy}
+use Rattle.run.specs.Table.{Accepts}
+use Rattle.run.specs.Call.{lent, Accepted, Ran, Settled}
 
--- what the place of row 11 tells
-pub at-place : (o : Option ℕ) (p : ℕ) → At p ≡ spotOf o → o ≡ some p
-unfolding spotOf
-at-place none p e = let z : _≡_ {A = ℕ} 0 1 = cc in absurd (omega arith)
-at-place (some q) p e = let z : p ≡ q = cc in rw z
+-- ---- what the rows of the refusal table tell
 
-pub nowhere : (o : Option ℕ) → Nowhere ≡ spotOf o → o ≡ none
-unfolding spotOf
-nowhere none e = refl
-nowhere (some q) e = let z : _≡_ {A = ℕ} 0 1 = cc in absurd (omega arith)
+-- row 11, by its place
+at-place : (o : Option ℕ) (p : ℕ) → At p ≡ spotOf o → RefusedBy 11 p ≡ checkedOf (numbered 11 o)
+unfolding spotOf numbered checkedOf
+at-place none p f = let z : _≡_ {A = ℕ} 0 1 = cc in absurd (omega arith)
+at-place (some q) p f = let z : p ≡ q = cc in rw z
 
-module _ (b s : List ℕ) (x : List (List ℕ)) (w : List ℕ) where
-  -- refused: nothing lent is written
-  refused-by : (f : Fault) → firstFault (lent s x w) b ≡ some f → Settled b s s x x w w (Refused (f .number) (f .place))
-  unfolding outcome outcomeBy bufferAfter rowsAfter workAfter afterRun
-  refused-by f e =
-      record { answer = rw e; result = rw e; rows = rw e; work = rw e; fixed = zero-row; explained = demand3 b }
+nowhere : (o : Option ℕ) → Nowhere ≡ spotOf o → AcceptedBy ≡ checkedOf (numbered 11 o)
+unfolding spotOf numbered checkedOf
+nowhere none f = refl
+nowhere (some q) f = let z : _≡_ {A = ℕ} 0 1 = cc in absurd (omega arith)
 
-  pub refused-job : (n p : ℕ) → jobFault b ≡ some (record { number = n; place = p }) → Settled b s s x x w w (Refused n p)
+module _ (l : Lent) (b : List ℕ) where
+  -- a fault of the job's own bytes comes first
+  pub by-job : (n p : ℕ) → jobFault b ≡ some (record { number = n; place = p }) → RefusedBy n p ≡ checkedOf (firstFault l b)
+  unfolding firstFault orElse checkedOf
+  by-job n p e = rw e
+
+  pub by-lent : (p : ℕ) → jobFault b ≡ none → At p ≡ spotOf (smallOutput l b) → RefusedBy 11 p ≡ checkedOf (firstFault l b)
   unfolding firstFault orElse
-  refused-job n p e = refused-by (record { number = n; place = p }) (rw e)
+  by-lent p e f = rw e (at-place (smallOutput l b) p f)
 
-  pub refused-lent : (p : ℕ) → jobFault b ≡ none → smallOutput (lent s x w) b ≡ some p → Settled b s s x x w w (Refused 11 p)
-  unfolding firstFault orElse numbered
-  refused-lent p e f = refused-by (record { number = 11; place = p }) (rw (e, f))
+  pub by-none : jobFault b ≡ none → Nowhere ≡ spotOf (smallOutput l b) → AcceptedBy ≡ checkedOf (firstFault l b)
+  unfolding firstFault orElse
+  by-none e f = rw e (nowhere (smallOutput l b) f)
 
-  pub enough : (h : Header) → countsOf h ≡ headerOf b → smallOutput (lent s x w) b ≡ none → Enough h s x w
+some-none : {f : Fault} → some f ≡ none → ⊥
+some-none e = let z : _≡_ {A = ℕ} 0 1 = cc in omega arith
+
+true-false : true ≡ false → ⊥
+true-false e = let z : _≡_ {A = ℕ} 0 1 = cc in omega arith
+
+pub accepted-none : (f : Option Fault) → isAccepted (checkedOf f) ≡ true → f ≡ none
+unfolding isAccepted checkedOf
+accepted-none none e = refl
+accepted-none (some f) e = absurd (true-false (sym e))
+
+-- ---- a job that meets no row
+
+none-of : (j : Option Fault) (o : Option ℕ) → orElse j (numbered 11 o) ≡ none → (j ≡ none) × (o ≡ none)
+unfolding orElse numbered
+none-of none none e = (refl, refl)
+none-of none (some q) e = absurd (some-none e)
+none-of (some f) o e = absurd (some-none e)
+
+module _ {b s : List ℕ} {x : List Row} {w : List ℕ} (a : Accepted b s x w) where
+  neither : (jobFault b ≡ none) × (smallOutput (lent s x w) b ≡ none)
+  neither = none-of (jobFault b) (smallOutput (lent s x w) b) (unfold firstFault in a .faultless)
+
+  pub faultless : jobFault b ≡ none
+  faultless = neither .0
+
+  pub accepts : (h : Header) → countsOf h ≡ headerOf b → Accepts h b
+  accepts h c = record { bytes = a .bytes; accepted = neither .0; counts = c }
+
+  -- what is lent is enough: row 11 does not hold
+  pub enough : (h : Header) → countsOf h ≡ headerOf b → (resultSize (countsOf h) ≤ length s) × (h .ops ≤ length x) × (workSize ≤ length w)
   unfolding smallOutput
-  enough h c e =
-      let z = simp (failed, among-none, among-end) at e in
-      record { result = rw c (z .0); rows = rw (← c) at (z .1 .0); work = z .1 .1 .0 }
+  enough h c = let z = simp (failed, among-none, among-end) at (neither .1) in (rw c (z .0), rw (← c) at (z .1 .0), z .1 .1 .0)
 
-  pub ran
-      : {t : List ℕ} {y : List (List ℕ)} {u : List ℕ} {v : ℕ}
-      → jobFault b ≡ none
-      → smallOutput (lent s x w) b ≡ none
-      → Ran b s t x y w u v
-      → Settled b s t x y w u (RanFor v)
-  unfolding outcome outcomeBy bufferAfter rowsAfter workAfter afterRun firstFault orElse numbered
-  ran e f r =
-      let z : 0 + length (resultBytes b) ≡ length (resultBytes b) = omega arith in
+  pub ran : {t : List ℕ} {y : List Row} {u : List ℕ} {v : ℕ} → Ran b s t x y w u v → Settled b s t x y w u (RanFor v)
+  unfolding outcome outcomeBy bufferAfter rowsAfter workAfter afterRun
+  ran r =
+      let e = a .faultless in
       record {
-        answer = rw (e, f, r .total);
-        result = rw (e, f) (r .result ∙ rw z at (over-parts (resultBytes b) s 0 (omega (arith, r .total, r .fits))));
-        rows = rw (e, f) (r .rows);
-        work = rw (e, f) (r .work);
-        fixed = zero-row;
+        answer = rw (e, r .total);
+        result = rw e (r .result);
+        rows = rw e (r .rows);
+        work = rw e (r .work);
+        fixed = sym blank-row;
         explained = demand3 b;
       }
 
--- the job's result is finished, and what was lent is cleared
-pub finished
-    : {s t : List ℕ} {v : ℕ} (b : List ℕ)
-    → Finished (result (jobOf b)) s t v
-    → (v ≡ length (resultBytes b)) × (v ≤ length s) × (t ≡ over s 0 (resultBytes b))
-unfolding resultBytes
-finished b f = (f .total, f .fits, f .bytes)
+-- ---- a job that is refused: nothing lent is written
+
+refused-by
+    : (b s : List ℕ) (x : List Row) (w : List ℕ) (f : Option Fault)
+    → firstFault (lent s x w) b ≡ f
+    → isAccepted (checkedOf f) ≡ false
+    → Settled b s s x x w w (refusedBy (checkedOf f))
+unfolding isAccepted refusedBy checkedOf outcome outcomeBy bufferAfter rowsAfter workAfter afterRun
+refused-by b s x w none q e = absurd (true-false e)
+refused-by b s x w (some f) q e =
+    record { answer = rw q; result = rw q; rows = rw q; work = rw q; fixed = sym blank-row; explained = demand3 b }
+
+pub refused
+    : (b s : List ℕ) (x : List Row) (w : List ℕ)
+    → isAccepted (checkedOf (firstFault (lent s x w) b)) ≡ false
+    → Settled b s s x x w w (refusedBy (checkedOf (firstFault (lent s x w) b)))
+refused b s x w e = refused-by b s x w (firstFault (lent s x w) b) refl e

@@ -1,23 +1,18 @@
 -- What is known of an accepted job.
 use mathlib.Core.Path.{_≡_, sym, ap, _∙_}
-use mathlib.Core.List.{List, [], _∷_}
-use Prim.Native.Nat.{ℕ, suc, _<_}
-use lib.ListN.{length, getD}
-use Rattle.spec.specs.Bytes.{AreBytes, end, next}
+use mathlib.Core.List.{List}
+use Prim.Native.Nat.{ℕ}
+use lib.ListN.{length}
 use Rattle.spec.specs.Job.{Header as Counts}
-use Rattle.spec.specs.Decode.{headerOf, fileOf, jobOf}
+use Rattle.spec.specs.Decode.{fileOf, jobOf}
 use Rattle.laws.specs.Codec.Rows.{counted}
 use Rattle.laws.specs.Codec.Proper.{JobProper}
 use Rattle.laws.specs.Codec.Exact.{accepted-proper}
 use Rattle.header.specs.declared.Header.{Header}
 use Rattle.header.specs.Counts.{Heads}
 use Rattle.header.specs.Accepted.{accepted-heads}
-use Rattle.turn.specs.Shown.{shapeOf}
+use Rattle.simulation.specs.Shown.{shapeOf}
 use Rattle.run.specs.Table.{Accepts}
-
-pub are-bytes : (b : List ℕ) → ((k : ℕ) → getD b k 0 < 256) → AreBytes b
-are-bytes [] h = end
-are-bytes (x ∷ b) h = next (h 0) (are-bytes b (λ k. h (suc k)))
 
 module _ {h : Header} {b : List ℕ} (a : Accepts h b) where
   pub proper : JobProper (jobOf b)

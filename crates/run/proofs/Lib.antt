@@ -1,7 +1,9 @@
 pub mod Known
-pub mod Clearing
 pub mod Turned
 pub mod Begins
-pub mod Telling
 pub mod Closing
 pub mod Ends
+pub mod Accepting
+pub mod Headers
+pub mod Calls
+pub mod Lent

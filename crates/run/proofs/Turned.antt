@@ -1,92 +1,95 @@
--- One turn on the lent table: the row that is taken out, stepped and put back is the machine's, and no other row changes.
-use mathlib.Core.Path.{_≡_, ap, _∙_}
+-- The turns on the lent table: the row that is taken out, stepped and put back is the machine's, and no other row changes.
+use mathlib.Core.Path.{_≡_, sym, ap, _∙_}
 use mathlib.Core.Logic.{by-cases}
-use mathlib.Core.List.{List, []}
-use Prim.Native.Nat.{ℕ, suc, _+_, _*_, _/_, _%_, _<_}
-use native.Mathlib.Numerals.{add-one}
+use mathlib.Core.List.{List}
+use Prim.Native.Nat.{ℕ, zero, suc, _/_, _≤_, _<_}
 use native.Mathlib.Decide.{ℕ-discrete}
 use native.Mathlib.Omega.{arith}
 use lib.ListN.{length, getD, set, length-set}
 use lib.Seq.{getD-set-same, getD-set-other}
-use Rattle.spec.specs.declared.Op.{Op}
 use Rattle.spec.specs.Job.{noOp}
 use Rattle.spec.specs.Decode.{jobOf}
 use Rattle.spec.specs.Run.{rowOf}
 use Rattle.spec.specs.Claims.{stateAt}
 use Rattle.laws.specs.Tools.{each-at}
 use Rattle.header.specs.declared.Header.{Header}
-use Rattle.memory.specs.declared.Shape.{Shape}
-use Rattle.turn.specs.declared.Row.{Row}
-use Rattle.turn.specs.Rows.{rowImage}
-use Rattle.turn.specs.Steps.{Out, memStep}
-use Rattle.turn.specs.Shown.{shapeOf, Meets}
-use Rattle.turn.specs.Safe.{Safe}
-use Rattle.turn.specs.SafeTurns.{safe}
-use Rattle.turn.specs.Sim.{simulates, others-same}
-use Rattle.run.specs.Table.{rowFrom, numbersOf, Both, turnAt, Accepts, Running}
-use Rattle.run.proofs.Known.{proper, turns-are, shape-is}
+use Rattle.header.specs.Counts.{countsOf}
+use Rattle.turn.specs.Rows.{rowImage, blankRow}
+use Rattle.turn.specs.Steps.{Out}
+use Rattle.simulation.specs.Shown.{Meets}
+use Rattle.simulation.specs.SafeTurns.{safe}
+use Rattle.simulation.specs.Sim.{simulates, others-same}
+use Rattle.reader.specs.Parts.{opsIn, turnsIn, opAt, turnAt}
+use Rattle.reader.specs.PartLaws.{length-ops, length-turns, op-in, turn-in}
+use Rattle.table.specs.Turns.{Both, movedOn, turnOn, Takes, runTurns}
+use Rattle.run.specs.Table.{shapeFor, allTurns, Accepts, Running}
+use Rattle.run.proofs.Known.{proper, heads, ops-are, turns-are, shape-is}
 
--- a row that was stored is loaded again
-pub round : (r : Row) → rowFrom (numbersOf r) ≡ r
-unfolding rowFrom numbersOf
-round r = let e : r .charge % 65536 + 65536 * (r .charge / 65536) ≡ r .charge = omega arith in rw e
+module _ {h : Header} {b : List ℕ} (a : Accepts h b) where
+  abbrev ops : List ℕ
+  ops = opsIn (countsOf h) b
 
--- what the code of `step_row` does, as the definition says it
-pub row-stepped
-    : (sh : Shape) (op : Op) (t i : ℕ) (rows : List (List ℕ)) (w : List ℕ) (r q : Row) (a v : List ℕ)
-    → r ≡ rowFrom (getD rows i [])
-    → record { row = q; work = v } ≡ memStep sh op t r w
-    → a ≡ numbersOf q
-    → record { rows = set rows i a; work = v } ≡ turnAt sh op t i rows w
-unfolding turnAt
-row-stepped sh op t i rows w r q a v er es ea =
-    let k : record { row = q; work = v } ≡ memStep sh op t (rowFrom (getD rows i [])) w = es ∙ ap (λ (z : Row). memStep sh op t z w) er in
-    rw ea (ap (λ (o : Out). record { rows = set rows i (numbersOf (o .row)); work = o .work }) k)
+  abbrev list : List ℕ
+  list = turnsIn (countsOf h) b
 
-module _ {h : Header} {b : List ℕ} (a : Accepts h b) (k : ℕ) (rows : List (List ℕ)) (w : List ℕ) (l : k < h .turns) (r : Running b k rows w) where
-  within : k < length (jobOf b .turns)
-  within = rw (turns-are a) l
+  pub turn-count : length list / 2 ≡ h .turns
+  turn-count = omega (arith, length-turns (heads a))
 
-  -- the operation that turn k names
-  abbrev who : ℕ
-  who = getD (jobOf b .turns) k 0
+  module _ (k : ℕ) (s : Both) (l : k < h .turns) (r : Running b k s) where
+    within : k < length (jobOf b .turns)
+    within = rw (turns-are a) l
 
-  pub named : who < length (jobOf b .ops)
-  named = each-at (jobOf b .turns) k 0 within (proper a .turns)
+    -- the operation that turn k names
+    abbrev who : ℕ
+    who = turnAt list k
 
-  pub safe-on
-      : (i : ℕ) (op : Op)
-      → i ≡ who
-      → op ≡ getD (jobOf b .ops) i noOp
-      → Safe (record { depth = h .depth; capacity = h .capacity; pages = h .pages }) op (rowFrom (getD rows i [])) w
-  safe-on i op ei eo = rw (eo, ei, r .table who named, ← shape-is a) (safe (jobOf b) (proper a) k within w (r .shown))
+    named : who < length (jobOf b .ops)
+    named = rw (turn-in (heads a) k l) (each-at (jobOf b .turns) k 0 within (proper a .turns))
 
-  stepped : Out
-  stepped = memStep (shapeOf (jobOf b .file)) (getD (jobOf b .ops) who noOp) k (rowImage (rowOf (stateAt (jobOf b) k) who)) w
+    op-is : opAt ops who ≡ getD (jobOf b .ops) who noOp
+    op-is = op-in (heads a) who (omega (arith, named, ops-are a))
 
-  meets : Meets (stateAt (jobOf b) (suc k)) who stepped
-  unfolding stepped
-  meets = simulates (jobOf b) (proper a) k within w (r .shown)
+    pub takes : Takes (shapeFor h) ops list k s
+    takes =
+        record {
+          row = omega (arith, named, r .room);
+          moves =
+              record {
+                op = omega (arith, named, ops-are a, length-ops (heads a));
+                turn = omega (arith, heads a .limits .turns);
+                safe =
+                    rw (op-is, r .table who named, turn-in (heads a) k l, ← shape-is a) (safe (jobOf b) (proper a) k within (s .work) (r .shown));
+              };
+        }
 
-  after : Running b (suc k) (set rows who (numbersOf (stepped .row))) (stepped .work)
-  after = record { shown = meets .shown; table = each; room = rw length-set (r .room) }
-    where
-      each
-          : (q : ℕ)
-          → q < length (jobOf b .ops)
-          → rowFrom (getD (set rows who (numbersOf (stepped .row))) q []) ≡ rowImage (rowOf (stateAt (jobOf b) (suc k)) q)
-      each q m =
-          by-cases (ℕ-discrete q who)
-          (λ e.
-          rw (e, getD-set-same rows who (numbersOf (stepped .row)) [] (omega (arith, named, r .room))) (round (stepped .row) ∙ meets .row))
-          (λ n.
-          rw (getD-set-other rows who q (numbersOf (stepped .row)) [] n, others-same (jobOf b) k within q n) (r .table q m))
+    stepped : Out
+    stepped = movedOn (shapeFor h) ops k who (getD (s .rows) who blankRow) (s .work)
 
-  pub turn-on
-      : (i : ℕ) (op : Op) (o : Both)
-      → i ≡ who
-      → op ≡ getD (jobOf b .ops) i noOp
-      → o ≡ turnAt (record { depth = h .depth; capacity = h .capacity; pages = h .pages }) op k i rows w
-      → Running b (k + 1) (o .rows) (o .work)
-  unfolding turnAt stepped
-  turn-on i op o ei eo e = rw (e, eo, ei, ← shape-is a, r .table who named, add-one) after
+    meets : Meets (stateAt (jobOf b) (suc k)) who stepped
+    unfolding stepped movedOn
+    meets = rw (op-is, r .table who named, turn-in (heads a) k l, ← shape-is a) (simulates (jobOf b) (proper a) k within (s .work) (r .shown))
+
+    each
+        : (q : ℕ)
+        → q < length (jobOf b .ops)
+        → getD (set (s .rows) who (stepped .row)) q blankRow ≡ rowImage (rowOf (stateAt (jobOf b) (suc k)) q)
+    each q m =
+        by-cases (ℕ-discrete q who)
+        (λ (e : q ≡ who). rw (e, getD-set-same (s .rows) who (stepped .row) blankRow (omega (arith, named, r .room))) (meets .row))
+        (λ n.
+        getD-set-other (s .rows) who q (stepped .row) blankRow n
+        ∙ r .table q m
+        ∙ ap rowImage (sym (others-same (jobOf b) k within q (λ (e : q ≡ getD (jobOf b .turns) k 0). n (e ∙ sym (turn-in (heads a) k l))))))
+
+    pub turned : Running b (suc k) (turnOn (shapeFor h) ops k who s)
+    unfolding turnOn stepped
+    turned = record { shown = meets .shown; table = each; room = rw length-set (r .room) }
+
+  -- after k turns
+  pub running : (k : ℕ) (s : Both) → k ≤ h .turns → Running b 0 s → Running b k (allTurns h b k s)
+  unfolding allTurns runTurns
+  running zero s l r = r
+  running (suc k) s l r = turned k (runTurns (shapeFor h) ops list k s) (omega arith) (unfold allTurns in running k s (omega arith) r)
+
+  pub each-takes : (s : Both) → Running b 0 s → (k : ℕ) → k < length list / 2 → Takes (shapeFor h) ops list k (allTurns h b k s)
+  each-takes s r k l = let m : k < h .turns = rw turn-count at l in takes k (allTurns h b k s) m (running k s (omega arith) r)

@@ -1,3 +1,3 @@
+pub mod Answer
 pub mod Table
-pub mod Told
 pub mod Call

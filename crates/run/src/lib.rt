@@ -1,30 +1,37 @@
 // A job is checked, run turn by turn, and its result written. "Nothing lent is written" where it is refused; after a run the lent table and
-// the lent working memory are cleared.
-mod table;
-
+// the lent working memory are cleared. The functions over the lent table, or a reader, are thin and proved by hand.
 use header::Header;
 use memory::Shape;
+use reader::Reader;
 use spec::Checked;
 use spec::Outcome;
 use spec::Spot;
+use turn::Row;
 ghost use mathlib.Core.Path.{_≡_};
-ghost use mathlib.Core.List.{List, []};
-ghost use Prim.Native.Nat.{ℕ, _+_, _*_, _≤_, _<_};
-ghost use lib.ListN.{length};
-ghost use Rattle.spec.specs.Decode.{headerOf, jobOf};
-ghost use Rattle.spec.specs.State.{Row as State-Row};
-ghost use Rattle.spec.specs.Result.{result as resultOf-job};
-ghost use Rattle.spec.specs.Check.{workSize, resultSize, smallOutput};
-ghost use Rattle.spec.specs.Cases.{spotOf};
+ghost use mathlib.Core.List.{List};
+ghost use Prim.Native.Nat.{ℕ, _/_, _≤_, _<_};
+ghost use lib.ListN.{length, replicate};
+ghost use Rattle.spec.specs.Bytes.{AreBytes};
+ghost use Rattle.spec.specs.Decode.{headerOf};
+ghost use Rattle.spec.specs.State.{State};
+ghost use Rattle.spec.specs.Result.{resultOf};
+ghost use Rattle.spec.specs.Check.{Lent, workSize, resultSize, smallOutput, firstFault};
+ghost use Rattle.spec.specs.Cases.{spotOf, checkedOf};
+ghost use Rattle.spec.specs.Outcome.{outcome};
 ghost use Rattle.laws.specs.Codec.Rows.{Limits};
-ghost use Rattle.header.specs.Counts.{countsOf};
-ghost use Rattle.result.specs.Finish.{Finished};
-ghost use Rattle.run.specs.Table.{Accepts, Running};
-ghost use Rattle.run.specs.Told.{Table, Tabled, AllTold, Ended};
-ghost use Rattle.run.specs.Call.{Enough, Ran, Settled};
+ghost use Rattle.header.specs.Counts.{countsOf, Heads};
+ghost use Rattle.memory.specs.Load.{loaded};
+ghost use Rattle.reader.specs.Parts.{directoryIn, tableIn, opsIn, turnsIn};
+ghost use Rattle.result.specs.Finish.{Ready, Finished};
+ghost use Rattle.table.specs.Turns.{both, Takes, runTurns};
+ghost use Rattle.run.specs.Answer.{isAccepted, refusedBy, ranFor};
+ghost use Rattle.run.specs.Table.{shapeFor, allTurns};
+ghost use Rattle.run.specs.Call.{Accepted, Ran, Settled};
 
 // "other lent working memory under 24,576 bytes"
 const WORK_SIZE: usize = 24576;
+
+// ---- the check
 
 // 11 output: "result buffer under .. (place 0); lent table under m rows (place 1); other lent working memory under .. (place 2)". Lengths only.
 fn small_output(h: Header, result: usize, rows: usize, work: usize) -> Spot
@@ -43,97 +50,122 @@ fn small_output(h: Header, result: usize, rows: usize, work: usize) -> Spot
     Spot::Nowhere
 }
 
-// "The turn list starts from the file as it came in, no page locked and no operation begun"
-fn begin(job: &[u8], h: Header, rows: &mut [[u16; 10]], work: &mut [u8])
-    requires { ⌜ Accepts h (now job) × (h .ops ≤ length (now rows)) × (workSize ≤ length (now work)) ⌝ }
-    ensures { λ _. ⌜ Running (now (job .entry)) 0 (now (rows .exit)) (now (work .exit)) ⌝ }
+// "Checked by rising number except that 11 comes last": every row of the refusal table.
+fn check_all(job: &[u8], result: usize, rows: usize, work: usize) -> Checked
+    ensures { λ r. ⌜ (r ≡ checkedOf (firstFault (record { result = result; rows = rows; work = work }) (now (job .entry)))) × AreBytes (now (job .entry)) ⌝ }
 {
-    memory::load_file(work, job, h.entries(), h.capacity, h.pages, h.used);
-    table::clear_rows(rows);
+    let c = job::check(job);
+    if let Checked::Refused(number, place) = c {
+        return Checked::Refused(number, place);
+    }
+    let s = small_output(Header::read(job), result, rows, work);
+    if let Spot::At(place) = s {
+        return Checked::Refused(11, place);
+    }
+    Checked::Accepted
 }
 
-// "One turn is one step of the operation it names": turn t.
-fn take_turn(job: &[u8], h: Header, t: usize, rows: &mut [[u16; 10]], work: &mut [u8])
-    requires { ⌜ Accepts h (now job) × (t < h .turns) × Running (now job) t (now rows) (now work) ⌝ }
-    ensures { λ _. ⌜ Running (now (job .entry)) (t + 1) (now (rows .exit)) (now (work .exit)) ⌝ }
+fn is_accepted(c: Checked) -> bool
+    ensures { λ r. ⌜ r ≡ isAccepted c ⌝ }
 {
-    let i = h.turn(job, t);
-    let op = h.op(job, i);
-    let shape = Shape {
+    match c {
+        Checked::Accepted => true,
+        Checked::Refused(_, _) => false,
+    }
+}
+
+// "A refusal gives the number and a place". (No accepted job comes here.)
+fn refused(c: Checked) -> Outcome
+    ensures { λ r. ⌜ r ≡ refusedBy c ⌝ }
+{
+    match c {
+        Checked::Accepted => Outcome::Refused(0, 0),
+        Checked::Refused(number, place) => Outcome::Refused(number, place),
+    }
+}
+
+// ---- the run
+
+fn shape_of(h: Header) -> Shape
+    ensures { λ r. ⌜ r ≡ shapeFor h ⌝ }
+{
+    Shape {
         depth: h.depth,
         capacity: h.capacity,
         pages: h.pages,
-    };
-    table::step_row(rows, i, shape, op, t as u16, work);
-}
-
-// Every turn, in the order of the turn list.
-fn turns(job: &[u8], h: Header, rows: &mut [[u16; 10]], work: &mut [u8])
-    requires { ⌜ Accepts h (now job) × Running (now job) 0 (now rows) (now work) ⌝ }
-    ensures { λ _. ⌜ Running (now (job .entry)) (h .turns) (now (rows .exit)) (now (work .exit)) ⌝ }
-{
-    let mut t: usize = 0;
-    while t < h.turns {
-        take_turn(job, h, t, rows, work);
-        t += 1;
     }
 }
 
-// The answers of the first m operations, and their marks; and how many of them are begun but unfinished.
-fn tell_all(m: usize, rows: &[[u16; 10]], result: &mut [u8], work: &mut [u8]) -> usize
-    requires { ⌜ (m ≤ 256) × Tabled m (now rows) × (24 + 8 * m ≤ length (now result)) × (workSize ≤ length (now work)) ⌝ }
-    ensures { λ v. ⌜ ((rs : List State-Row) → Table m rs (now (rows .entry)) → AllTold rs (now (result .entry)) (now (result .exit)) (now (work .entry)) (now (work .exit)) v) ⌝ }
+// "The turn list starts from the file as it came in, no page locked"
+fn load(job: &[u8], h: Header, work: &mut [u8])
+    requires { ⌜ Heads h (now job) × (workSize ≤ length (now work)) ⌝ }
+    ensures { λ _. ⌜ now (work .exit) ≡ loaded (now (work .entry)) (directoryIn (countsOf h) (now (job .entry))) (tableIn (countsOf h) (now (job .entry))) (h .capacity) (h .used) ⌝ }
 {
-    let mut under: usize = 0;
-    let mut i: usize = 0;
-    while i < m {
-        let a = rows[i];
-        under += result::tell(table::load(a), i, result, work);
-        i += 1;
-    }
-    under
+    let reader = Reader::new(job, h);
+    memory::load_file(
+        work,
+        reader.directory(),
+        reader.page_table(),
+        h.capacity,
+        h.used,
+    );
 }
 
-// The result of a job that has taken its turns; and its length.
-fn report(h: Header, rows: &[[u16; 10]], result: &mut [u8], work: &mut [u8]) -> usize
-    requires { ⌜ Ended h (now rows) (now work) × (resultSize (countsOf h) ≤ length (now result)) ⌝ }
-    ensures { λ v. ⌜ ((b : List ℕ) → Accepts h b → Running b (h .turns) (now (rows .entry)) (now (work .entry)) → Finished (resultOf-job (jobOf b)) (now (result .entry)) (now (result .exit)) v) ⌝ }
+// Every turn of the job.
+fn take_turns(job: &[u8], h: Header, rows: &mut [Row], work: &mut [u8])
+    requires { ⌜ Heads h (now job) × ((k : ℕ) → k < length (turnsIn (countsOf h) (now job)) / 2 → Takes (shapeFor h) (opsIn (countsOf h) (now job)) (turnsIn (countsOf h) (now job)) k (allTurns h (now job) k (both (now rows) (now work)))) ⌝ }
+    ensures { λ _. ⌜ both (now (rows .exit)) (now (work .exit)) ≡ allTurns h (now (job .entry)) (length (turnsIn (countsOf h) (now (job .entry))) / 2) (both (now (rows .entry)) (now (work .entry))) ⌝ }
 {
-    let under = tell_all(h.ops, rows, result, work);
-    result::finish(result, work, h.depth, h.capacity, h.pages, h.ops, under)
+    let reader = Reader::new(job, h);
+    table::turns(
+        rows,
+        reader.operations(),
+        reader.turn_list(),
+        shape_of(h),
+        work,
+    );
 }
 
-// "A job that meets no row below is run": from the file as it came in to the result; then what was lent is cleared.
-fn run_accepted(
-    job: &[u8],
-    h: Header,
-    result: &mut [u8],
-    rows: &mut [[u16; 10]],
-    work: &mut [u8],
-) -> usize
-    requires { ⌜ Accepts h (now job) × Enough h (now result) (now rows) (now work) ⌝ }
-    ensures { λ v. ⌜ Ran (now (job .entry)) (now (result .entry)) (now (result .exit)) (now (rows .entry)) (now (rows .exit)) (now (work .entry)) (now (work .exit)) v ⌝ }
+// What is left when all operations are told: the rest of the result, whose length it is; and "lent working memory is zero".
+fn close(h: Header, under: usize, result: &mut [u8], work: &mut [u8]) -> usize
+    requires { ⌜ Limits (countsOf h) × (resultSize (countsOf h) ≤ length (now result)) × (workSize ≤ length (now work)) ⌝ }
+    ensures { λ v. ⌜ ((s : State) → Ready s (h .depth) (h .capacity) (h .pages) (h .ops) under (now (result .entry)) (now (work .entry)) → Finished (resultOf s) (now (result .entry)) (now (result .exit)) v) × (now (work .exit) ≡ replicate (length (now (work .entry))) 0) ⌝ }
 {
-    begin(job, h, rows, work);
-    turns(job, h, rows, work);
-    let total = report(h, rows, result, work);
-    table::clear_rows(rows);
+    let total = result::finish(result, work, h.depth, h.capacity, h.pages, h.ops, under);
     memory::clear_all(work);
     total
 }
 
+// "A job that meets no row below is run": from the file as it came in to the result; then what was lent is cleared.
+fn run_accepted(job: &[u8], result: &mut [u8], rows: &mut [Row], work: &mut [u8]) -> usize
+    requires { ⌜ Accepted (now job) (now result) (now rows) (now work) ⌝ }
+    ensures { λ v. ⌜ Ran (now (job .entry)) (now (result .entry)) (now (result .exit)) (now (rows .entry)) (now (rows .exit)) (now (work .entry)) (now (work .exit)) v ⌝ }
+{
+    let h = Header::read(job);
+    let blank = Row::blank();
+    load(job, h, work);
+    table::fill(rows, blank);
+    take_turns(job, h, rows, work);
+    let under = table::tell_rows(rows, h.ops, result, work);
+    table::fill(rows, blank);
+    close(h, under, result, work)
+}
+
+fn ran(total: usize) -> Outcome
+    ensures { λ r. ⌜ r ≡ ranFor total ⌝ }
+{
+    Outcome::Ran(total)
+}
+
 // THE LIBRARY: any bytes, and any lent result buffer, table and working memory.
-pub fn run(job: &[u8], result: &mut [u8], rows: &mut [[u16; 10]], work: &mut [u8]) -> Outcome
+pub fn run(job: &[u8], result: &mut [u8], rows: &mut [Row], work: &mut [u8]) -> Outcome
     ensures { λ r. ⌜ Settled (now (job .entry)) (now (result .entry)) (now (result .exit)) (now (rows .entry)) (now (rows .exit)) (now (work .entry)) (now (work .exit)) r ⌝ }
 {
-    let c = job::check(job);
-    if let Checked::Refused(number, place) = c {
-        return Outcome::Refused(number, place);
+    let c = check_all(job, result.len(), rows.len(), work.len());
+    if is_accepted(c) {
+        let total = run_accepted(job, result, rows, work);
+        ran(total)
+    } else {
+        refused(c)
     }
-    let h = Header::read(job);
-    let s = small_output(h, result.len(), rows.len(), work.len());
-    if let Spot::At(place) = s {
-        return Outcome::Refused(11, place);
-    }
-    Outcome::Ran(run_accepted(job, h, result, rows, work))
 }

@@ -4,10 +4,37 @@
 
 use chargefile_tests::Outcome;
 
-/// A row of the lent table: ten numbers, all 0 for an operation not begun.
-pub type Row = [u16; 10];
+/// A row of the lent table, as include/chargefile.h declares it; all 0 for an operation not begun.
+#[repr(C)]
+#[derive(Clone, Copy, PartialEq, Eq)]
+pub struct Row {
+    pub charge: u32,
+    pub stage: u16,
+    pub page: u16,
+    pub base: u16,
+    pub count: u16,
+    pub next: u16,
+    pub used: u16,
+    pub code: u16,
+    pub moment: u16,
+}
 
-pub const NO_ROW: Row = [0; 10];
+/// A row with the same number in every field.
+const fn row_of(number: u16) -> Row {
+    Row {
+        charge: number as u32,
+        stage: number,
+        page: number,
+        base: number,
+        count: number,
+        next: number,
+        used: number,
+        code: number,
+        moment: number,
+    }
+}
+
+pub const NO_ROW: Row = row_of(0);
 
 #[link(name = "chargefile", kind = "static")]
 extern "C" {
@@ -39,7 +66,7 @@ impl Lent {
     pub fn new(result: usize, rows: usize, memory: usize) -> Lent {
         Lent {
             result: vec![0xA5; result],
-            rows: vec![[0x5A5A; 10]; rows],
+            rows: vec![row_of(0x5A5A); rows],
             memory: vec![0xC3; memory],
         }
     }

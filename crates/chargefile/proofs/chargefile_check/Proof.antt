@@ -2,10 +2,6 @@ use borrow.Author.Needs.{needs}
 use Rattle.chargefile.proofs.Laws.{told-accepted, told-refused}
 use Rattle.chargefile.proofs.chargefile_check.Statement.{statement}
 use Rattle.chargefile.proofs.chargefile_check.Tie as tie
-use Rattle.chargefile.proofs.chargefile_check.Reads as reads
-use Rattle.chargefile.proofs.chargefile_check.Lts as lts
-use Rattle.chargefile.proofs.put_place.Reads as put-place-reads
-use Rattle.job.proofs.check.Reads as check-reads
 
 -- src/lib.rt:22:9
 check-requires : tie.Need-check-requires

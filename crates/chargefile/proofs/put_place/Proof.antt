@@ -2,8 +2,6 @@ use borrow.Author.Needs.{needs}
 use Rattle.chargefile.proofs.Laws.{place-set, place-none}
 use Rattle.chargefile.proofs.put_place.Statement.{statement}
 use Rattle.chargefile.proofs.put_place.Tie as tie
-use Rattle.chargefile.proofs.put_place.Reads as reads
-use Rattle.chargefile.proofs.put_place.Lts as lts
 
 -- src/lib.rt:13:9
 slice-write-places : tie.Need-slice-write-places

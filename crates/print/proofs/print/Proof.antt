@@ -1,7 +1,8 @@
 use mathlib.Core.Path.{sym}
 use native.Mathlib.Omega.{arith}
 use lib.Seq.{length-take-le}
-use Rattle.print.proofs.Laws.{are-bytes, ran-fits, ran-sound, ran-printed, refused-printed, within}
+use Rattle.laws.specs.Codec.AsBytes.{are-bytes}
+use Rattle.print.proofs.Laws.{ran-fits, ran-sound, ran-printed, refused-printed, within}
 use borrow.Author.Needs.{needs}
 use Rattle.print.proofs.print.Statement.{statement}
 use Rattle.print.proofs.print.Tie as tie
@@ -9,23 +10,23 @@ use Rattle.print.proofs.print.Tie as tie
 returns : tie.Need-returns
 returns c = search needs
 
-run-requires : tie.Need-run-requires
-run-requires c κs = search needs
+run-here-requires : tie.Need-run-here-requires
+run-here-requires c κs = search needs
 
 enum-known-o : tie.Need-enum-known-o
 enum-known-o c = search needs
 
 slice-reshare-prefix-report : tie.Need-slice-reshare-prefix-report
-slice-reshare-prefix-report c = ran-fits (c .before .before .before .before .before .before .before .before .before .run .ensures) (c .before .before .o .given .1)
+slice-reshare-prefix-report c = ran-fits (c .before .before .before .before .before .before .before .before .run-here .ensures) (c .before .before .o .given .1)
 
 slice-aggregate-report : tie.Need-slice-aggregate-report
-slice-aggregate-report c = sym (length-take-le _ _ (ran-fits (c .before .before .before .before .before .before .before .before .before .before .run .ensures) (c .before .before .before .o .given .1)))
+slice-aggregate-report c = sym (length-take-le _ _ (ran-fits (c .before .before .before .before .before .before .before .before .before .run-here .ensures) (c .before .before .before .o .given .1)))
 
 report-requires : tie.Need-report-requires
 report-requires c κs =
-    let r = c .before .before .before .before .before .before .before .before .before .before in
-    let known = r .before .before .before .before .before .before .before .before .shared-slice-known .given in
-    (omega arith, ran-sound (r .run .ensures) (c .before .before .before .o .given .1) (are-bytes _ (λ k. omega (arith, known k))))
+    let r = c .before .before .before .before .before .before .before .before .before in
+    let known = r .before .before .before .before .before .before .before .shared-slice-known .given in
+    (omega arith, ran-sound (r .run-here .ensures) (c .before .before .before .o .given .1) (are-bytes _ (λ k. omega (arith, known k))))
 
 enum-known-o-2 : tie.Need-enum-known-o-2
 enum-known-o-2 c = search needs
@@ -47,11 +48,11 @@ same-length-4 c = search needs
 
 returns-2 : tie.Need-returns-2
 returns-2 c =
-    let r = c .before .before .before .before .before .before .before .before .before .before .before .before .before in
-    let known = r .before .before .before .before .before .before .before .before .shared-slice-known .given in (
+    let r = c .before .before .before .before .before .before .before .before .before .before .before .before in
+    let known = r .before .before .before .before .before .before .before .shared-slice-known .given in (
       omega arith,
       within (c .before .before .report .ensures) (omega arith),
-      ran-printed (r .run .ensures) (c .before .before .before .before .before .before .o .given .1) (are-bytes _ (λ k. omega (arith, known k))) (c .before .before .report .ensures) (omega arith),
+      ran-printed (r .run-here .ensures) (c .before .before .before .before .before .before .o .given .1) (are-bytes _ (λ k. omega (arith, known k))) (c .before .before .report .ensures) (omega arith),
     )
 
 same-length-5 : tie.Need-same-length-5
@@ -60,17 +61,11 @@ same-length-5 c = search needs
 same-length-6 : tie.Need-same-length-6
 same-length-6 c = search needs
 
-same-length-7 : tie.Need-same-length-7
-same-length-7 c = search needs
-
-same-length-8 : tie.Need-same-length-8
-same-length-8 c = search needs
-
 returns-3 : tie.Need-returns-3
 returns-3 c = (
   omega arith,
   within (c .before .before .refused .ensures) (omega arith),
-  refused-printed (c .before .before .before .before .before .before .before .before .before .before .before .before .run .ensures) (c .before .before .before .before .before .o2 .given .1) (c .before .before .refused .ensures) (omega arith),
+  refused-printed (c .before .before .before .before .before .before .before .before .before .before .before .run-here .ensures) (c .before .before .before .before .before .o2 .given .1) (c .before .before .refused .ensures) (omega arith),
 )
 
 pub print-spec : {M : Type 1} → statement M
@@ -78,7 +73,7 @@ print-spec =
     tie.close
     (tie.spec
     returns
-    run-requires
+    run-here-requires
     enum-known-o
     slice-reshare-prefix-report
     slice-aggregate-report
@@ -88,10 +83,8 @@ print-spec =
     same-length
     same-length-2
     same-length-3
-    same-length-4
     returns-2
+    same-length-4
     same-length-5
     same-length-6
-    same-length-7
-    same-length-8
     returns-3)

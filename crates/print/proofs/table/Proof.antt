@@ -1,0 +1,16 @@
+use mathlib.Core.Path.{ap}
+use lib.ListN.{replicate}
+use borrow.Author.Needs.{needs}
+use Rattle.print.proofs.table.Statement.{statement}
+use Rattle.print.proofs.table.Tie as tie
+
+-- src/lib.rt:26:9
+blank-requires : tie.Need-blank-requires
+blank-requires c κs = search needs
+
+-- src/lib.rt:23:1
+returns : tie.Need-returns
+returns c = ap (replicate 256) (c .blank .ensures)
+
+pub table-spec : {M : Type 1} → statement M
+table-spec = tie.close (tie.spec blank-requires returns)

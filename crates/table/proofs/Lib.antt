@@ -1,0 +1,7 @@
+-- what the walks over the lent table share
+pub mod Rows
+pub mod Again
+pub mod Shapes
+pub mod Rounds
+pub mod Turning
+pub mod Telling
