@@ -19,6 +19,7 @@
 pub mod answer;
 pub mod check;
 pub mod damage;
+pub mod examples;
 pub mod explain;
 pub mod file;
 pub mod job;

@@ -1,0 +1,270 @@
+/*
+ * The charge file and its turns: the library's two calls, for C (C99 on) and C++.
+ *
+ * A job is a charge file (an extendible hash file of call numbers and charges), a list of
+ * operations on it, and a list of turns that says which operation takes the next step.
+ * chargefile_check tells whether the bytes of a job are sound; chargefile_run checks them, runs the
+ * job turn by turn and writes its result. docs/FORMAT.md has every byte of a job and of a result.
+ *
+ * Proved of both calls, for every input (crates/chargefile/src/lib.rt, crates/run/specs/Call.antt):
+ *
+ *   - Any bytes may be handed over as a job. A call always ends, with a result or with one numbered
+ *     refusal.
+ *   - A refused job has written nothing to the result buffer, the rows or the working memory.
+ *   - The job's own bytes are never written.
+ *   - A job that meets no row of the refusal table is run, and the log explains every answer.
+ *
+ * The caller's part, which no proof of the library can see to:
+ *
+ *   - Each pointer leads to as many bytes, rows or numbers as the length beside it says. Lengths of
+ *     `rows` and `places` count rows and numbers, not bytes. Where a length is 0 the pointer is not
+ *     followed and may be NULL.
+ *   - No two of the lent parts overlap, and nobody else writes to them during the call.
+ *   - `rows` is aligned to 4 bytes and `places` to 8, as the compiler aligns arrays of these types.
+ *     Job, result and working memory are bytes and need no alignment.
+ *
+ * The library keeps nothing between calls, allocates nothing, reads no clock and takes no lock of
+ * the system. Two threads may call it at once: they may share a job, and nothing else. It is built
+ * for x86-64 with the System V calling convention. Of the C library it needs the functions that
+ * fill and copy memory (memset and its like), and no other.
+ */
+#ifndef CHARGEFILE_H
+#define CHARGEFILE_H
+
+#include <stddef.h>
+#include <stdint.h>
+
+#ifdef __cplusplus
+extern "C" {
+#endif
+
+/* ---- Limits. A job with a count outside them is refused (CHARGEFILE_REFUSED_LIMIT). */
+
+#define CHARGEFILE_VERSION 1u /* of jobs and of results */
+
+#define CHARGEFILE_DEPTH_MAX 8u /* global depth g, 0 to 8: the directory has 2^g entries */
+#define CHARGEFILE_CAPACITY_MIN 1u
+#define CHARGEFILE_CAPACITY_MAX 8u /* records in a page, c */
+#define CHARGEFILE_PAGES_MIN 1u
+#define CHARGEFILE_PAGES_MAX 256u      /* pages in the file, P; of these 1 to P are in use */
+#define CHARGEFILE_OPERATIONS_MAX 256u /* operations of a job, m, from 0 */
+#define CHARGEFILE_TURNS_MAX 16384u    /* turns of a job, from 0 */
+
+/* ---- Where the fields of a job's header stand, counted in bytes from its start. All numbers of a
+ * job and of a result are little-endian. These are also the places of refusals 2, 3 and 4. */
+
+#define CHARGEFILE_AT_VERSION 0u           /* 2 bytes */
+#define CHARGEFILE_AT_DEPTH 2u             /* 1 byte: g */
+#define CHARGEFILE_AT_CAPACITY 3u          /* 1 byte: c */
+#define CHARGEFILE_AT_PAGES 4u             /* 2 bytes: P */
+#define CHARGEFILE_AT_IN_USE 6u            /* 2 bytes: U */
+#define CHARGEFILE_AT_OPERATIONS 8u        /* 2 bytes: m */
+#define CHARGEFILE_AT_TURNS 10u            /* 2 bytes */
+#define CHARGEFILE_AT_DIRECTORY_OFFSET 12u /* 4 bytes, as all that follow */
+#define CHARGEFILE_AT_TABLE_OFFSET 16u
+#define CHARGEFILE_AT_OPERATIONS_OFFSET 20u
+#define CHARGEFILE_AT_TURNS_OFFSET 24u
+#define CHARGEFILE_AT_TOTAL 28u
+
+/* ---- Sizes in bytes of the parts of a job and of a result. */
+
+#define CHARGEFILE_HEADER_SIZE 32u
+#define CHARGEFILE_ENTRY_SIZE 2u      /* a page's number, from 1 */
+#define CHARGEFILE_PAGE_HEAD_SIZE 4u  /* local depth (1), record count (1), pattern (2) */
+#define CHARGEFILE_RECORD_SIZE 8u     /* call (4), charge in cents (4) */
+#define CHARGEFILE_OPERATION_SIZE 10u /* kind (1), zero (1), call (4), charge (4) */
+#define CHARGEFILE_TURN_SIZE 2u       /* an operation's number, from 0 */
+
+#define CHARGEFILE_RESULT_HEADER_SIZE 24u
+#define CHARGEFILE_ANSWER_SIZE 8u /* code (1), zero (1), turns used (2), charge (4) */
+#define CHARGEFILE_LINE_SIZE 4u   /* of the log: moment (2), operation (2) */
+
+/* ---- Where the fields of a result's header stand. */
+
+#define CHARGEFILE_RESULT_AT_VERSION 0u    /* 2 bytes */
+#define CHARGEFILE_RESULT_AT_OPERATIONS 2u /* 2 bytes: m, so many answers */
+#define CHARGEFILE_RESULT_AT_LINES 4u      /* 2 bytes: L, so many lines of the log */
+#define CHARGEFILE_RESULT_AT_UNDER_WAY 6u  /* 2 bytes: operations begun but unfinished */
+#define CHARGEFILE_RESULT_AT_ANSWERS_OFFSET 8u
+#define CHARGEFILE_RESULT_AT_LOG_OFFSET 12u
+#define CHARGEFILE_RESULT_AT_FILE_OFFSET 16u /* 0: no charge file, for an operation is under way */
+#define CHARGEFILE_RESULT_AT_TOTAL 20u
+
+/* ---- How large. The macros are constant expressions where their arguments are, so that a buffer
+ * can be laid out when the program is built. Arguments are counts within the limits above. */
+
+/* One page of a file with this capacity. */
+#define CHARGEFILE_PAGE_SIZE(capacity)                                                             \
+    (CHARGEFILE_PAGE_HEAD_SIZE + CHARGEFILE_RECORD_SIZE * (size_t)(capacity))
+
+/* A charge file: a job with no operations and no turns. */
+#define CHARGEFILE_FILE_SIZE(depth, capacity, pages)                                               \
+    (CHARGEFILE_HEADER_SIZE + ((size_t)CHARGEFILE_ENTRY_SIZE << (depth)) +                         \
+     CHARGEFILE_PAGE_SIZE(capacity) * (size_t)(pages))
+
+/* A whole job. */
+#define CHARGEFILE_JOB_SIZE(depth, capacity, pages, operations, turns)                             \
+    (CHARGEFILE_FILE_SIZE(depth, capacity, pages) +                                                \
+     CHARGEFILE_OPERATION_SIZE * (size_t)(operations) + CHARGEFILE_TURN_SIZE * (size_t)(turns))
+
+/* The result buffer that a job's run must be lent: 24 + 12m + the charge file's length. The result
+ * may come out shorter; chargefile_run tells its length. */
+#define CHARGEFILE_RESULT_SIZE(depth, capacity, pages, operations)                                 \
+    (CHARGEFILE_RESULT_HEADER_SIZE +                                                               \
+     (CHARGEFILE_ANSWER_SIZE + CHARGEFILE_LINE_SIZE) * (size_t)(operations) +                      \
+     CHARGEFILE_FILE_SIZE(depth, capacity, pages))
+
+#define CHARGEFILE_JOB_MAX 53280u    /* the longest job, in bytes */
+#define CHARGEFILE_RESULT_MAX 21048u /* a result buffer that is enough for every job */
+#define CHARGEFILE_ROWS_MAX CHARGEFILE_OPERATIONS_MAX /* rows that are enough for every job */
+#define CHARGEFILE_MEMORY_SIZE 24576u /* working memory: this much, whatever the job */
+
+/* The little-endian number in 2 or 4 bytes. */
+static inline uint32_t chargefile_two(const uint8_t *bytes)
+{
+    return (uint32_t)bytes[0] | (uint32_t)bytes[1] << 8;
+}
+
+static inline uint32_t chargefile_four(const uint8_t *bytes)
+{
+    return chargefile_two(bytes) | chargefile_two(bytes + 2) << 16;
+}
+
+/*
+ * CHARGEFILE_RESULT_SIZE for the counts in a job's header. Meant for a job that chargefile_check
+ * has accepted. It asks no more than the header: 0 where that is cut off, or where the depth is
+ * over its limit, so that any bytes may be handed in.
+ */
+static inline size_t chargefile_result_size(const uint8_t *job, size_t job_length)
+{
+    if (job_length < CHARGEFILE_HEADER_SIZE || job[CHARGEFILE_AT_DEPTH] > CHARGEFILE_DEPTH_MAX) {
+        return 0;
+    }
+    return CHARGEFILE_RESULT_SIZE(job[CHARGEFILE_AT_DEPTH], job[CHARGEFILE_AT_CAPACITY],
+                                  chargefile_two(job + CHARGEFILE_AT_PAGES),
+                                  chargefile_two(job + CHARGEFILE_AT_OPERATIONS));
+}
+
+/*
+ * ---- Refusals. Rows are tried by rising number, and within a row the lowest place is told. Places
+ * count bytes from the job's start, but for 1 and 11. docs/FORMAT.md finds the field of any place.
+ *
+ *   No.  When                                                        Place
+ *    1   the job is under 32 bytes                                   its length
+ *    2   the version is not 1                                        0
+ *    3   a count is outside its limits, or U is 0 or above P         the field
+ *    4   an offset or the total is not as computed                   the field
+ *        the length is not the total                                 28
+ *    5   an entry is 0 or above U                                    the entry
+ *    6   a page's depth is above g, its pattern has more bits than   the page
+ *        its depth, its count is above c, or an unused record or
+ *        unused page is not zero
+ *    7   an entry's page does not own it, or another page does too   the entry
+ *    8   a call is in the wrong page, or twice in its page           the (later) record
+ *    9   a kind is not 1 to 3, or a spare byte is not zero, or the   the operation
+ *        charge of a search or a delete is not zero
+ *   10   a turn names no operation of the job                        the turn
+ *   11   too little is lent, and nothing else is wrong               one of chargefile_small
+ */
+enum chargefile_refusal {
+    CHARGEFILE_ACCEPTED = 0, /* no refusal */
+    CHARGEFILE_REFUSED_SHORT = 1,
+    CHARGEFILE_REFUSED_VERSION = 2,
+    CHARGEFILE_REFUSED_LIMIT = 3,
+    CHARGEFILE_REFUSED_OFFSET = 4,
+    CHARGEFILE_REFUSED_ENTRY = 5,
+    CHARGEFILE_REFUSED_PAGE = 6,
+    CHARGEFILE_REFUSED_OWNER = 7,
+    CHARGEFILE_REFUSED_RECORD = 8,
+    CHARGEFILE_REFUSED_OPERATION = 9,
+    CHARGEFILE_REFUSED_TURN = 10,
+    CHARGEFILE_REFUSED_OUTPUT = 11
+};
+
+/* The places of refusal 11: what is too small. */
+enum chargefile_small {
+    CHARGEFILE_SMALL_RESULT = 0, /* under chargefile_result_size bytes */
+    CHARGEFILE_SMALL_ROWS = 1,   /* fewer rows than the job has operations */
+    CHARGEFILE_SMALL_MEMORY = 2  /* under CHARGEFILE_MEMORY_SIZE bytes */
+};
+
+/* ---- Operations and their answers. */
+
+enum chargefile_kind {
+    CHARGEFILE_SEARCH = 1,
+    CHARGEFILE_INSERT = 2,
+    CHARGEFILE_DELETE = 3
+};
+
+/* An answer's charge is the record's for found, stored, already there and deleted, else 0. */
+enum chargefile_code {
+    CHARGEFILE_NOT_YET = 0, /* the operation's moment is not known: it has no line in the log */
+    CHARGEFILE_FOUND = 1,
+    CHARGEFILE_NONE = 2, /* a search that found nothing */
+    CHARGEFILE_STORED = 3,
+    CHARGEFILE_ALREADY_THERE = 4,
+    CHARGEFILE_DELETED = 5,
+    CHARGEFILE_ABSENT = 6,   /* a delete that found nothing */
+    CHARGEFILE_NO_DEPTH = 7, /* the page is full, and no split can part its calls */
+    CHARGEFILE_NO_PAGE = 8   /* the page is full, and too few pages are left to split it */
+};
+
+/*
+ * A row of the lent table: the library's notes about one operation under way. A caller only makes
+ * room for it. What rows hold before a call does not matter; after a run every lent row, also past
+ * the job's operations, is all zero, which stands for an operation not begun.
+ */
+typedef struct chargefile_row {
+    uint32_t charge; /* of its answer */
+    uint16_t stage;  /* what its next turn does; 0: not begun */
+    uint16_t page;   /* the page that it reads or holds */
+    uint16_t base;   /* this and the next two: where it stands in that stage */
+    uint16_t count;
+    uint16_t next;
+    uint16_t used;   /* turns used without waiting */
+    uint16_t code;   /* of its answer; 0: not yet */
+    uint16_t moment; /* the turn number of its line in the log */
+} chargefile_row;
+
+/* Stops a build whose compiler lays the row out otherwise. */
+typedef char chargefile_row_has_20_bytes[sizeof(chargefile_row) == 20 ? 1 : -1];
+
+/*
+ * Checks the job_length bytes at `job`, refusals 1 to 10.
+ *
+ * Returns CHARGEFILE_ACCEPTED (0), and `places` is untouched; or the number of the refusal, and its
+ * place is written to places[0], if places_length is not 0. Nothing else is written.
+ */
+uint64_t chargefile_check(const uint8_t *job, size_t job_length, uint64_t *places,
+                          size_t places_length);
+
+/*
+ * Checks the job as chargefile_check does, then what is lent (refusal 11), runs it and writes its
+ * result. There is no need to call chargefile_check first.
+ *
+ * Lent:
+ *   result   at least chargefile_result_size(job, job_length) bytes;
+ *   rows     at least as many rows as the job has operations;
+ *   memory   at least CHARGEFILE_MEMORY_SIZE bytes;
+ *   places   1 number, or none.
+ * More may be lent. What they hold beforehand does not matter.
+ *
+ * Returns 0 where the job was run. Then
+ *   - the result stands at the start of `result`, and its length in places[0], if places_length is
+ *     not 0 (the result's own field at CHARGEFILE_RESULT_AT_TOTAL says the same);
+ *   - the bytes of `result` past that length keep their values;
+ *   - every row of `rows` and every byte of `memory` is zero, also past what the job needed.
+ * Else it returns the number of the refusal, and its place is written to places[0], if
+ * places_length is not 0; `result`, `rows` and `memory` are as they were.
+ * Of `places`, only the first number is ever written.
+ */
+uint64_t chargefile_run(const uint8_t *job, size_t job_length, uint8_t *result,
+                        size_t result_length, chargefile_row *rows, size_t rows_length,
+                        uint8_t *memory, size_t memory_length, uint64_t *places,
+                        size_t places_length);
+
+#ifdef __cplusplus
+}
+#endif
+
+#endif /* CHARGEFILE_H */

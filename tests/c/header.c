@@ -1,0 +1,139 @@
+/* The numbers of chargefile.h are the document's, and a row is laid out as the library has it. */
+#include <stdalign.h>
+#include <stddef.h>
+
+#include "chargefile.h"
+#include "from_cpp.h"
+#include "groups.h"
+#include "harness.h"
+#include "lent.h"
+
+static void row_layout(void)
+{
+    EXPECT_EQUAL(sizeof(chargefile_row), 20);
+    EXPECT_EQUAL(alignof(chargefile_row), 4);
+    EXPECT_EQUAL(offsetof(chargefile_row, charge), 0);
+    EXPECT_EQUAL(offsetof(chargefile_row, stage), 4);
+    EXPECT_EQUAL(offsetof(chargefile_row, page), 6);
+    EXPECT_EQUAL(offsetof(chargefile_row, base), 8);
+    EXPECT_EQUAL(offsetof(chargefile_row, count), 10);
+    EXPECT_EQUAL(offsetof(chargefile_row, next), 12);
+    EXPECT_EQUAL(offsetof(chargefile_row, used), 14);
+    EXPECT_EQUAL(offsetof(chargefile_row, code), 16);
+    EXPECT_EQUAL(offsetof(chargefile_row, moment), 18);
+}
+
+/* "depth 0 to 8, capacity 1 to 8, pages 1 to 256, operations 0 to 256, turns 0 to 16,384" */
+static void limits(void)
+{
+    EXPECT_EQUAL(CHARGEFILE_DEPTH_MAX, 8);
+    EXPECT_EQUAL(CHARGEFILE_CAPACITY_MIN, 1);
+    EXPECT_EQUAL(CHARGEFILE_CAPACITY_MAX, 8);
+    EXPECT_EQUAL(CHARGEFILE_PAGES_MIN, 1);
+    EXPECT_EQUAL(CHARGEFILE_PAGES_MAX, 256);
+    EXPECT_EQUAL(CHARGEFILE_OPERATIONS_MAX, 256);
+    EXPECT_EQUAL(CHARGEFILE_TURNS_MAX, 16384);
+    EXPECT_EQUAL(CHARGEFILE_MEMORY_SIZE, 24576);
+}
+
+static const counts LARGEST = {8, 8, 256, 1, 256, 16384};
+
+static void largest_sizes(void)
+{
+    EXPECT_EQUAL(CHARGEFILE_JOB_MAX, layout_of(LARGEST).total);
+    EXPECT_EQUAL(CHARGEFILE_JOB_SIZE(8, 8, 256, 256, 16384), layout_of(LARGEST).total);
+    EXPECT_EQUAL(CHARGEFILE_RESULT_MAX, result_room(LARGEST));
+    EXPECT_EQUAL(CHARGEFILE_RESULT_SIZE(8, 8, 256, 256), result_room(LARGEST));
+    EXPECT_EQUAL(CHARGEFILE_ROWS_MAX, 256);
+}
+
+/* The macros for every depth and capacity, and some counts between the limits. */
+static void sizes(void)
+{
+    for (unsigned depth = 0; depth <= 8; depth++) {
+        for (unsigned capacity = 1; capacity <= 8; capacity++) {
+            counts c = {depth, capacity, 1 + 31 * depth, 1, 7 * capacity, 3 * depth};
+            layout l = layout_of(c);
+            EXPECT_EQUAL(CHARGEFILE_FILE_SIZE(depth, capacity, c.pages), l.operations);
+            EXPECT_EQUAL(CHARGEFILE_JOB_SIZE(depth, capacity, c.pages, c.operations, c.turns),
+                         l.total);
+            EXPECT_EQUAL(CHARGEFILE_RESULT_SIZE(depth, capacity, c.pages, c.operations),
+                         result_room(c));
+        }
+    }
+}
+
+static void result_size_of_a_job(void)
+{
+    static job j;
+    make_job_e(&j, 20);
+    EXPECT_EQUAL(chargefile_result_size(j.bytes, j.length), result_room(counts_of(&j)));
+    make_job(&j, LARGEST);
+    EXPECT_EQUAL(chargefile_result_size(j.bytes, j.length), result_room(LARGEST));
+    EXPECT_EQUAL(chargefile_result_size(j.bytes, 31), 0);
+    EXPECT_EQUAL(chargefile_result_size(NULL, 0), 0);
+    j.bytes[CHARGEFILE_AT_DEPTH] = 255;
+    EXPECT_EQUAL(chargefile_result_size(j.bytes, j.length), 0);
+}
+
+/* "Codes: 0 not yet, 1 found, 2 none, 3 stored, 4 already there, 5 deleted, 6 absent, 7 no depth,
+ * 8 no page." "kind (1 search, 2 insert, 3 delete)" */
+static void codes_and_kinds(void)
+{
+    static const unsigned codes[] = {
+        CHARGEFILE_NOT_YET, CHARGEFILE_FOUND,         CHARGEFILE_NONE,
+        CHARGEFILE_STORED,  CHARGEFILE_ALREADY_THERE, CHARGEFILE_DELETED,
+        CHARGEFILE_ABSENT,  CHARGEFILE_NO_DEPTH,      CHARGEFILE_NO_PAGE,
+    };
+    for (unsigned i = 0; i < sizeof codes / sizeof codes[0]; i++) {
+        EXPECT_EQUAL(codes[i], i);
+    }
+    EXPECT_EQUAL(CHARGEFILE_SEARCH, 1);
+    EXPECT_EQUAL(CHARGEFILE_INSERT, 2);
+    EXPECT_EQUAL(CHARGEFILE_DELETE, 3);
+}
+
+static void refusal_numbers(void)
+{
+    static const unsigned numbers[] = {
+        CHARGEFILE_ACCEPTED,          CHARGEFILE_REFUSED_SHORT,  CHARGEFILE_REFUSED_VERSION,
+        CHARGEFILE_REFUSED_LIMIT,     CHARGEFILE_REFUSED_OFFSET, CHARGEFILE_REFUSED_ENTRY,
+        CHARGEFILE_REFUSED_PAGE,      CHARGEFILE_REFUSED_OWNER,  CHARGEFILE_REFUSED_RECORD,
+        CHARGEFILE_REFUSED_OPERATION, CHARGEFILE_REFUSED_TURN,   CHARGEFILE_REFUSED_OUTPUT,
+    };
+    for (unsigned i = 0; i < sizeof numbers / sizeof numbers[0]; i++) {
+        EXPECT_EQUAL(numbers[i], i);
+    }
+}
+
+static void numbers_are_little_endian(void)
+{
+    static const uint8_t bytes[4] = {0x78, 0x56, 0x34, 0xF2};
+    EXPECT_EQUAL(chargefile_two(bytes), 0x5678);
+    EXPECT_EQUAL(chargefile_four(bytes), 0xF2345678);
+}
+
+static void called_from_cpp(void)
+{
+    static job j;
+    make_job_e(&j, 20);
+    lend(&j);
+    EXPECT_EQUAL(cpp_check(j.bytes, j.length, set.places, 1), CHARGEFILE_ACCEPTED);
+    EXPECT_EQUAL(cpp_check(j.bytes, 31, set.places, 1), CHARGEFILE_REFUSED_SHORT);
+    EXPECT_EQUAL(set.places[0], 31);
+    EXPECT_EQUAL(cpp_row_size(), 20);
+    EXPECT_EQUAL(cpp_result_size(j.bytes, j.length), result_room(counts_of(&j)));
+}
+
+void header_tests(void)
+{
+    test("header: a row has 20 bytes, its fields as the library has them", row_layout);
+    test("header: the limits", limits);
+    test("header: the largest job, result and table", largest_sizes);
+    test("header: sizes of files, jobs and results", sizes);
+    test("header: the result buffer of a job", result_size_of_a_job);
+    test("header: codes and kinds", codes_and_kinds);
+    test("header: refusal numbers", refusal_numbers);
+    test("header: numbers of 2 and 4 bytes", numbers_are_little_endian);
+    test("header: the library called from C++", called_from_cpp);
+}

@@ -1,0 +1,13 @@
+/* The header against the library, and both against the document. `.ci/c` builds and runs this. */
+#include "groups.h"
+#include "harness.h"
+
+int main(void)
+{
+    header_tests();
+    limit_tests();
+    refusal_tests();
+    output_tests();
+    result_tests();
+    return all_counted();
+}

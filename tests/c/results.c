@@ -1,0 +1,205 @@
+/*
+ * What a run writes. Job E and the marked items (C) to (H) of the document, read off the result's
+ * bytes by the offsets in its header.
+ */
+#include <string.h>
+
+#include "groups.h"
+#include "harness.h"
+#include "lent.h"
+
+static job j;
+
+typedef struct answer {
+    unsigned code, turns;
+    uint32_t charge;
+} answer;
+
+static unsigned two_at(unsigned place)
+{
+    return chargefile_two(set.result + place);
+}
+
+static uint32_t four_at(unsigned place)
+{
+    return chargefile_four(set.result + place);
+}
+
+/* Answer `operation` of the result, its spare byte zero. */
+static void expect_answer(unsigned operation, answer wanted)
+{
+    unsigned at = four_at(CHARGEFILE_RESULT_AT_ANSWERS_OFFSET) + 8 * operation;
+    EXPECT_EQUAL(set.result[at], wanted.code);
+    EXPECT_EQUAL(set.result[at + 1], 0);
+    EXPECT_EQUAL(two_at(at + 2), wanted.turns);
+    EXPECT_EQUAL(four_at(at + 4), wanted.charge);
+}
+
+static void expect_line(unsigned line, unsigned moment, unsigned operation)
+{
+    unsigned at = four_at(CHARGEFILE_RESULT_AT_LOG_OFFSET) + 4 * line;
+    EXPECT_EQUAL(two_at(at), moment);
+    EXPECT_EQUAL(two_at(at + 2), operation);
+}
+
+/* The header: offsets "in that order with no gap", and 0 where there is no charge file. */
+static void expect_header(unsigned operations, unsigned lines, unsigned under_way, size_t file)
+{
+    unsigned log = 24 + 8 * operations;
+    unsigned end = log + 4 * lines;
+    EXPECT_EQUAL(two_at(CHARGEFILE_RESULT_AT_VERSION), CHARGEFILE_VERSION);
+    EXPECT_EQUAL(two_at(CHARGEFILE_RESULT_AT_OPERATIONS), operations);
+    EXPECT_EQUAL(two_at(CHARGEFILE_RESULT_AT_LINES), lines);
+    EXPECT_EQUAL(two_at(CHARGEFILE_RESULT_AT_UNDER_WAY), under_way);
+    EXPECT_EQUAL(four_at(CHARGEFILE_RESULT_AT_ANSWERS_OFFSET), 24);
+    EXPECT_EQUAL(four_at(CHARGEFILE_RESULT_AT_LOG_OFFSET), log);
+    EXPECT_EQUAL(four_at(CHARGEFILE_RESULT_AT_FILE_OFFSET), under_way > 0 ? 0 : end);
+    EXPECT_EQUAL(four_at(CHARGEFILE_RESULT_AT_TOTAL), end + file);
+}
+
+/* The charge file of the result is this one, to the byte, and is accepted as a job. */
+static void expect_file(const job *wanted)
+{
+    const uint8_t *file = set.result + four_at(CHARGEFILE_RESULT_AT_FILE_OFFSET);
+    EXPECT_EQUAL(four_at(CHARGEFILE_RESULT_AT_TOTAL) - four_at(CHARGEFILE_RESULT_AT_FILE_OFFSET),
+                 wanted->length);
+    EXPECT(memcmp(file, wanted->bytes, wanted->length) == 0);
+    EXPECT_EQUAL(chargefile_check(file, wanted->length, NULL, 0), CHARGEFILE_ACCEPTED);
+}
+
+static void run_job_e(unsigned turns, size_t total)
+{
+    make_job_e(&j, turns);
+    expect_run(&j, total);
+}
+
+static void job_e_header(void)
+{
+    run_job_e(20, 148);
+    EXPECT_EQUAL(j.length, 156);
+    expect_header(4, 4, 0, 76);
+}
+
+/* "op 0 insert 4 stored 90 turns 9", "op 1 search 3 found 70 turns 2",
+ * "op 2 delete 3 deleted 70 turns 6", "op 3 search 3 none 0 turns 3" */
+static void job_e_answers(void)
+{
+    run_job_e(20, 148);
+    expect_answer(0, (answer){CHARGEFILE_STORED, 9, 90});
+    expect_answer(1, (answer){CHARGEFILE_FOUND, 2, 70});
+    expect_answer(2, (answer){CHARGEFILE_DELETED, 6, 70});
+    expect_answer(3, (answer){CHARGEFILE_NONE, 3, 0});
+}
+
+/* "at 6 op 1", "at 12 op 2", "at 15 op 3", "at 18 op 0" */
+static void job_e_log(void)
+{
+    run_job_e(20, 148);
+    expect_line(0, 6, 1);
+    expect_line(1, 12, 2);
+    expect_line(2, 15, 3);
+    expect_line(3, 18, 0);
+}
+
+/* "page 1 depth 1 pattern 0 : 2=50 4=90", "page 2 depth 1 pattern 1 :" */
+static void job_e_file(void)
+{
+    static const record held[2] = {{2, 50}, {4, 90}};
+    static job wanted;
+    counts c = {1, 2, 2, 2, 0, 0};
+    make_job(&wanted, c);
+    put_page(&wanted, 1, 1, 0, held, 2);
+    run_job_e(20, 148);
+    expect_file(&wanted);
+}
+
+/* (G) "job E cut to 7 turns: L 0, two begun, no charge file". The search took turn 0, the insert
+ * the six turns after it. */
+static void job_e_cut(void)
+{
+    run_job_e(7, 24 + 8 * 4);
+    expect_header(4, 0, 2, 0);
+    expect_answer(0, (answer){CHARGEFILE_NOT_YET, 6, 0});
+    expect_answer(1, (answer){CHARGEFILE_NOT_YET, 1, 0});
+    expect_answer(2, (answer){CHARGEFILE_NOT_YET, 0, 0});
+    expect_answer(3, (answer){CHARGEFILE_NOT_YET, 0, 0});
+}
+
+/* (H) "no turns: the charge file is the one that came in" */
+static void job_e_without_turns(void)
+{
+    static const record held[2] = {{2, 50}, {3, 70}};
+    static job wanted;
+    counts c = {1, 2, 2, 1, 0, 0};
+    make_job(&wanted, c);
+    put_page(&wanted, 1, 0, 0, held, 2);
+    run_job_e(0, 24 + 8 * 4 + 76);
+    expect_header(4, 0, 0, 76);
+    expect_file(&wanted);
+}
+
+/* One operation on the full page of (C) to (F), and its answer. The turns used are counted off the
+ * document's "Turns": four for (a) to (d), then what follows. */
+static void expect_on_full_page(unsigned pages, unsigned kind, uint32_t call, answer wanted)
+{
+    make_full_page(&j, pages, kind, call, kind == CHARGEFILE_INSERT ? 30 : 0);
+    expect_run(&j, result_room(counts_of(&j)));
+    expect_answer(0, wanted);
+}
+
+/* (C) After (a) to (d), two new pages and two entries are written; then the new pages are unlocked,
+ * the old page is written, and unlocked. The call's own entry is entry 3, written last: turn 7. */
+static void insert_3_needs_two_pages(void)
+{
+    static const record moved[2] = {{1, 10}, {5, 20}};
+    static const record stored[1] = {{3, 30}};
+    static job wanted;
+    counts c = {2, 2, 3, 3, 0, 0};
+    make_job(&wanted, c);
+    put_entry(&wanted, 0, 1);
+    put_entry(&wanted, 1, 1);
+    put_entry(&wanted, 2, 2);
+    put_entry(&wanted, 3, 3);
+    put_page(&wanted, 1, 1, 0, NULL, 0);
+    put_page(&wanted, 2, 2, 2, moved, 2);
+    put_page(&wanted, 3, 2, 3, stored, 1);
+    expect_on_full_page(3, CHARGEFILE_INSERT, 3, (answer){CHARGEFILE_STORED, 4 + 2 + 2 + 3, 30});
+    expect_line(0, 7, 0);
+    expect_file(&wanted);
+}
+
+/* (D), (E2), (F) and a delete of a call that is not there: one turn after (a) to (d) unlocks. */
+static void no_page(void)
+{
+    expect_on_full_page(2, CHARGEFILE_INSERT, 3, (answer){CHARGEFILE_NO_PAGE, 5, 0});
+}
+
+static void no_depth(void)
+{
+    expect_on_full_page(2, CHARGEFILE_INSERT, 9, (answer){CHARGEFILE_NO_DEPTH, 5, 0});
+}
+
+static void already_there(void)
+{
+    expect_on_full_page(2, CHARGEFILE_INSERT, 1, (answer){CHARGEFILE_ALREADY_THERE, 5, 10});
+}
+
+static void absent(void)
+{
+    expect_on_full_page(2, CHARGEFILE_DELETE, 9, (answer){CHARGEFILE_ABSENT, 5, 0});
+}
+
+void result_tests(void)
+{
+    test("result: header of job E", job_e_header);
+    test("result: answers of job E", job_e_answers);
+    test("result: log of job E", job_e_log);
+    test("result: charge file of job E", job_e_file);
+    test("result: job E cut to 7 turns (G)", job_e_cut);
+    test("result: job E without turns (H)", job_e_without_turns);
+    test("result: insert 3 needs two pages (C)", insert_3_needs_two_pages);
+    test("result: no page (D)", no_page);
+    test("result: no depth (E2)", no_depth);
+    test("result: already there (F)", already_there);
+    test("result: absent", absent);
+}

@@ -1,0 +1,219 @@
+//! The jobs of examples/: each a small story, told as a file, its operations
+//! and its turns. `cargo run --bin write_examples -- FOLDER` writes them.
+
+use crate::file::ChargeFile;
+use crate::job::{
+    Job, Kind, Operation, MAX_CAPACITY, MAX_DEPTH, MAX_OPERATIONS, MAX_PAGES, MAX_TURNS,
+};
+use crate::page::{Page, Record};
+
+/// A job with its name: examples/NAME.job has its bytes.
+pub struct Example {
+    pub name: &'static str,
+    pub job: Job,
+}
+
+/// All of them, the small ones first.
+pub fn examples() -> Vec<Example> {
+    let example = |name, job| Example { name, job };
+    vec![
+        example("blank", blank()),
+        example("job-e", job_e()),
+        example("hotel", hotel()),
+        example("school", school()),
+        example("stale", stale()),
+        example("misfiled", misfiled()),
+        example("month", month()),
+    ]
+}
+
+/// The smallest job: one empty page, nothing to do.
+fn blank() -> Job {
+    Job {
+        file: even_file(0, 1, 1, 0),
+        operations: vec![],
+        turns: vec![],
+    }
+}
+
+/// Job E of the document.
+fn job_e() -> Job {
+    Job {
+        file: filled(even_file(1, 2, 2, 0), &[(2, 50), (3, 70)]),
+        operations: vec![insert(4, 90), search(3), delete(3), search(3)],
+        turns: vec![1, 0, 0, 0, 0, 0, 0, 0, 2, 2, 2, 2, 2, 2, 3, 3, 3, 1, 0, 0],
+    }
+}
+
+/// Guests' calls contend for one page. Page 1 has the even calls and is full,
+/// page 2 the odd ones and is full too; two pages are left.
+fn hotel() -> Job {
+    let calls = [(40, 35), (41, 20), (42, 120), (43, 45), (44, 60), (45, 10)];
+    let turns = [
+        // Insert 46 locks page 1. The next three read their entries: page 1.
+        &[0, 0, 1, 2, 3][..],
+        // It decides to split the page; insert 48 and delete 42 must wait.
+        &[0, 0, 1, 2],
+        // It writes page 3. The search reads page 1, locked or not.
+        &[0, 3],
+        // Entries 2 and 3, the new page unlocked, the old page written. The
+        // two still wait.
+        &[0, 0, 0, 0, 1, 2],
+        // It unlocks page 1, and delete 42 gets it; but the call's entry now
+        // names page 3, so it lets page 1 go.
+        &[0, 2, 2, 1, 2],
+        // Now each has a page to itself.
+        &rounds(&[1, 2], 5),
+        // The four others, in step: 56 splits page 1 again and takes the last
+        // page; 64 waits for it, and then no split can part its calls.
+        &rounds(&[4, 5, 6, 7], 14),
+    ];
+    Job {
+        file: filled(even_file(3, 3, 4, 1), &calls),
+        operations: vec![
+            insert(46, 80),
+            insert(48, 25),
+            delete(42),
+            search(44),
+            // The same slip once more.
+            insert(46, 80),
+            insert(56, 15),
+            insert(64, 90),
+            insert(47, 30),
+        ],
+        turns: turns.concat(),
+    }
+}
+
+/// Lights out: the turns stop while an insert is splitting a page.
+fn school() -> Job {
+    let turns = [
+        // The search finds its call and is finished.
+        &[0, 0][..],
+        // Insert 11 reads its entry and locks page 1; delete 9 comes too late.
+        &[1, 1, 2],
+        // (c), (d), the new page, entries 2 and 3. Entry 3 is the call's own:
+        // from now on it is stored.
+        &[1, 1, 1, 1, 1],
+        // The delete waits, and nobody gets another turn.
+        &[2],
+    ];
+    Job {
+        file: filled(even_file(2, 2, 3, 0), &[(9, 40), (10, 75)]),
+        operations: vec![search(10), insert(11, 55), delete(9), search(12)],
+        turns: turns.concat(),
+    }
+}
+
+/// Two searches read page 1 after their entries have left it.
+fn stale() -> Job {
+    let turns = [
+        // Both searches read their entries: page 1.
+        &[1, 2][..],
+        // Insert 4 splits page 1: (a) to (d), page 2 written, entry 2 changed
+        // on turn 7, entry 3 on turn 8, page 2 unlocked.
+        &[0, 0, 0, 0, 0, 0, 0, 0],
+        // Delete 1 works on page 2 from beginning to end, and a search that
+        // begins after it finds nothing.
+        &[3, 3, 3, 3, 3, 3],
+        &[4, 4, 4],
+        // Only now do the first two searches read page 1. It is not written
+        // yet and still has calls 1 and 3.
+        &[1, 2],
+        // Insert 4 writes page 1 and unlocks it.
+        &[0, 0],
+    ];
+    Job {
+        file: filled(even_file(2, 3, 2, 0), &[(1, 10), (2, 20), (3, 30)]),
+        operations: vec![insert(4, 40), search(1), search(3), delete(1), search(1)],
+        turns: turns.concat(),
+    }
+}
+
+/// Call 6 stands in page 2, which takes the odd calls.
+fn misfiled() -> Job {
+    let mut file = filled(even_file(1, 3, 2, 1), &[(2, 50), (4, 90), (1, 30)]);
+    file.page_mut(2)
+        .records
+        .extend([record(6, 15), record(3, 70)]);
+    Job {
+        file,
+        operations: vec![search(6)],
+        turns: rounds(&[0], 3),
+    }
+}
+
+/// A whole month at the limits. 128 pages are full to the brim with calls 1 to
+/// 1024, so each of the first 128 inserts splits its page, until all 256 pages
+/// are in use. Then searches and deletes join them, and seven inserts that all
+/// belong to entry 0, where there is room for four.
+fn month() -> Job {
+    let calls: Vec<(u32, u32)> = (1..=1024).map(|call| (call, 5 + 7 * call % 96)).collect();
+    let file = even_file(MAX_DEPTH as u32, MAX_CAPACITY, MAX_PAGES, 7);
+    let mut operations = Vec::new();
+    operations.extend((1025..1153).map(|call| insert(call, call - 1000)));
+    operations.extend((1100..1164).map(search));
+    operations.extend((0..57).map(|i| delete(1 + 21 * i)));
+    operations.extend((0..7).map(|i| insert(2048 + 256 * i, 99)));
+    assert_eq!(operations.len(), MAX_OPERATIONS);
+    let first: Vec<usize> = (0..128).collect();
+    let all: Vec<usize> = (0..MAX_OPERATIONS).collect();
+    let turns = [rounds(&first, 32), rounds(&all, 48)].concat();
+    assert_eq!(turns.len(), MAX_TURNS);
+    Job {
+        file: filled(file, &calls),
+        operations,
+        turns,
+    }
+}
+
+/// A file whose pages in use are all of one local depth: page 1 has pattern 0,
+/// page 2 pattern 1, and so on.
+fn even_file(depth: u32, capacity: usize, page_count: usize, local: u32) -> ChargeFile {
+    let mut file = ChargeFile::empty(depth, capacity, page_count);
+    file.in_use = 1 << local;
+    file.directory = (0..1 << depth)
+        .map(|j| 1 + (j >> (depth - local)))
+        .collect();
+    for pattern in 0..1 << local {
+        file.pages[pattern] = Page {
+            depth: local,
+            pattern: pattern as u32,
+            records: vec![],
+        };
+    }
+    file
+}
+
+/// The file with these calls and charges, each in its page.
+fn filled(mut file: ChargeFile, calls: &[(u32, u32)]) -> ChargeFile {
+    for &(call, charge) in calls {
+        let number = file.page_of(call);
+        file.page_mut(number).records.push(record(call, charge));
+    }
+    file
+}
+
+fn record(call: u32, charge: u32) -> Record {
+    Record { call, charge }
+}
+
+fn search(call: u32) -> Operation {
+    let (kind, charge) = (Kind::Search, 0);
+    Operation { kind, call, charge }
+}
+
+fn insert(call: u32, charge: u32) -> Operation {
+    let kind = Kind::Insert;
+    Operation { kind, call, charge }
+}
+
+fn delete(call: u32) -> Operation {
+    let (kind, charge) = (Kind::Delete, 0);
+    Operation { kind, call, charge }
+}
+
+/// So many rounds in which each operation takes one turn.
+fn rounds(operations: &[usize], times: usize) -> Vec<usize> {
+    operations.repeat(times)
+}

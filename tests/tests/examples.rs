@@ -1,0 +1,159 @@
+//! The files of examples/ are what `write_examples` writes, and each job shows what examples/README.md says of it.
+
+use std::collections::BTreeSet;
+use std::fs;
+use std::path::{Path, PathBuf};
+
+use chargefile_tests::answer::{Code, Line};
+use chargefile_tests::examples::{examples, Example};
+use chargefile_tests::job::{Counts, Job};
+use chargefile_tests::run::Run;
+use chargefile_tests::{check, report};
+
+fn folder() -> PathBuf {
+    Path::new(env!("CARGO_MANIFEST_DIR")).join("../examples")
+}
+
+fn read(name: &str) -> Vec<u8> {
+    fs::read(folder().join(name)).unwrap_or_else(|why| panic!("{name}: {why}"))
+}
+
+fn example(name: &str) -> Job {
+    let named = |example: &Example| example.name == name;
+    let found = examples().into_iter().find(named);
+    found.expect("an example of this name").job
+}
+
+/// The job dealt its whole turn list.
+fn dealt(job: &Job) -> Run {
+    let mut run = Run::new(job);
+    run.deal_all(&job.turns);
+    run
+}
+
+fn codes(run: &Run) -> Vec<Code> {
+    run.answers().iter().map(|answer| answer.code).collect()
+}
+
+/// The moment of an operation, and the turns dealt to it.
+fn moment_and_turns(job: &Job, run: &Run, operation: usize) -> (usize, Vec<usize>) {
+    let mine = |line: &&Line| line.operation == operation;
+    let moment = run.log().iter().find(mine).expect("a line").moment;
+    let turns = job.turns.iter().enumerate();
+    let dealt = turns.filter(|(_, named)| **named == operation);
+    (moment, dealt.map(|(turn, _)| turn).collect())
+}
+
+#[test]
+fn the_files_are_what_is_written() {
+    let mut wanted = BTreeSet::from(["README.md".to_string()]);
+    for Example { name, job } in examples() {
+        let bytes = job.to_bytes();
+        assert!(read(&format!("{name}.job")) == bytes, "{name}.job");
+        assert!(read(&format!("{name}.txt")) == report(&bytes), "{name}.txt");
+        wanted.extend([format!("{name}.job"), format!("{name}.txt")]);
+    }
+    let files = fs::read_dir(folder()).expect("the folder of examples");
+    let name = |file: fs::DirEntry| file.file_name().into_string().expect("a plain name");
+    let there: BTreeSet<String> = files.map(|file| name(file.expect("a file"))).collect();
+    assert_eq!(there, wanted);
+}
+
+#[test]
+fn each_has_its_text_in_the_readme() {
+    let readme = String::from_utf8(read("README.md")).expect("text");
+    for Example { name, .. } in examples() {
+        assert!(readme.contains(&format!("\n## {name}\n")), "{name}");
+    }
+}
+
+#[test]
+fn blank_is_the_smallest_job() {
+    let counts = example("blank").counts();
+    assert_eq!(example("blank").to_bytes().len(), 32 + 2 + 12);
+    assert_eq!((counts.depth, counts.capacity, counts.pages), (0, 1, 1));
+    assert_eq!((counts.operations, counts.turns), (0, 0));
+}
+
+#[test]
+fn job_e_is_the_marked_one() {
+    let vectors = Path::new(env!("CARGO_MANIFEST_DIR")).join("vectors");
+    let vector = |name: &str| fs::read(vectors.join(name)).expect("a vector");
+    assert_eq!(read("job-e.job"), vector("marked-b.job"));
+    assert_eq!(read("job-e.txt"), vector("marked-b.out"));
+}
+
+#[test]
+fn hotel_contends_splits_and_ends() {
+    let run = dealt(&example("hotel"));
+    assert!(run.waits >= 5, "{} waits", run.waits);
+    assert_eq!(run.shared.tally.splits, 2);
+    assert_eq!(run.shared.tally.retries, 1, "delete 42 lets page 1 go");
+    assert_eq!(run.shared.file.in_use, 4, "all pages are in use");
+    assert_eq!(run.unfinished().count(), 0);
+    let refused = [Code::AlreadyThere, Code::NoDepth, Code::NoPage];
+    for code in refused {
+        assert!(codes(&run).contains(&code), "{code:?}");
+    }
+}
+
+#[test]
+fn school_stops_early() {
+    let run = dealt(&example("school"));
+    let told = [Code::Found, Code::Stored, Code::NotYet, Code::NotYet];
+    assert_eq!(codes(&run), told);
+    assert_eq!(run.under_way(), 2, "the insert and the delete");
+    assert!(!run.rows[1].progress.finished(), "stored, but under way");
+    assert_eq!(run.rows[3].first_turn, None, "the last search is not begun");
+    assert!(run.contents().charge_file.is_none());
+}
+
+#[test]
+fn stale_searches_have_the_moment_of_the_change() {
+    let job = example("stale");
+    let run = dealt(&job);
+    assert_eq!(run.shared.tally.stale_found, 2);
+    assert_eq!(run.shared.tally.stale_found_gone, 1, "call 1 was deleted");
+    let (deleted, _) = moment_and_turns(&job, &run, 3);
+    for (search, change) in [(1, 7), (2, 8)] {
+        let (moment, turns) = moment_and_turns(&job, &run, search);
+        assert_eq!(moment, change);
+        assert!(
+            !turns.contains(&moment),
+            "a turn of the insert, not its own"
+        );
+        assert!(moment < deleted && deleted < turns[1]);
+    }
+}
+
+#[test]
+fn misfiled_names_the_record() {
+    let job = example("misfiled").to_bytes();
+    assert_eq!(check(&job), Some((8, 76)));
+    let call = u32::from_le_bytes(job[76..80].try_into().expect("four bytes"));
+    assert_eq!(call, 6);
+}
+
+#[test]
+fn month_is_at_the_limits_and_ends() {
+    let job = example("month");
+    let largest = Counts {
+        depth: 8,
+        capacity: 8,
+        pages: 256,
+        in_use: 128,
+        operations: 256,
+        turns: 16_384,
+    };
+    assert_eq!(job.counts(), largest);
+    assert_eq!(job.to_bytes().len(), 53_280);
+    let run = dealt(&job);
+    assert_eq!(run.shared.file.in_use, 256);
+    assert_eq!(run.unfinished().count(), 0);
+    let told = codes(&run);
+    let count = |code: Code| told.iter().filter(|told| **told == code).count();
+    assert_eq!(count(Code::Stored), 128 + 4);
+    assert_eq!(count(Code::NoDepth), 3);
+    assert_eq!(count(Code::Found) + count(Code::None), 64);
+    assert_eq!(count(Code::Deleted) + count(Code::Absent), 57);
+}
