@@ -1,5 +1,4 @@
 -- DEMAND 3, for every accepted job given as bytes and its whole turn list, under no further hypothesis.
-use mathlib.Core.List.{List}
 use Rattle.spec.specs.Decode.{jobOf}
 use Rattle.spec.specs.Claims.{Demand3}
 use Rattle.laws.specs.Codec.Accepted.{accepted-file}

@@ -1,5 +1,5 @@
 -- Read-back: the charge file in a result is accepted as a job, and says just the file after the last turn.
-use Prim.Native.Nat.{ℕ, zero, suc, _^_, _<_, _≤_}
+use Prim.Native.Nat.{ℕ, suc, _^_, _<_, _≤_}
 use mathlib.Core.Path.{_≡_}
 use mathlib.Core.List.{List, []}
 use mathlib.Core.Option.{none, some}
@@ -16,7 +16,7 @@ use Rattle.spec.specs.Turn.{recOf}
 use Rattle.spec.specs.Run.{rowOf, run}
 use Rattle.spec.specs.Result.{result}
 use Rattle.spec.specs.Check.{jobFault}
-use Rattle.spec.specs.Proper.{Each, end, PageNo, FileOk}
+use Rattle.spec.specs.Proper.{Each, end, FileOk}
 use Rattle.spec.specs.Claims.{stateAt}
 use Rattle.laws.specs.Tools.{each-at}
 use Rattle.laws.specs.Codec.Back.{RecFits}

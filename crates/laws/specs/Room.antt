@@ -1,11 +1,10 @@
 -- The least result buffer is enough: the result of an accepted job has at most 24 + 12m bytes and the charge file's.
-use Prim.Native.Nat.{ℕ, zero, suc, _+_, _*_, _≤_}
-use mathlib.Core.Path.{_≡_, refl, ap}
+use Prim.Native.Nat.{ℕ, _≤_}
+use mathlib.Core.Path.{_≡_, refl}
 use mathlib.Core.List.{List}
 use mathlib.Core.Option.{none}
 use native.Mathlib.Omega.{arith}
 use lib.ListN.{length, length-map}
-use lib.Dec.{eqb}
 use borrow.Author.Tests.{eqb-true}
 use Rattle.spec.specs.File.{File}
 use Rattle.spec.specs.Job.{Job, tableOffset, opsOffset, fileLength}
@@ -13,7 +12,7 @@ use Rattle.spec.specs.Encode.{headerFor}
 use Rattle.spec.specs.Decode.{headerOf, fileOf, jobOf}
 use Rattle.spec.specs.State.{State}
 use Rattle.spec.specs.Run.{start, run}
-use Rattle.spec.specs.Result.{toldOf, resultOf, result, encodeResult, fileBytes}
+use Rattle.spec.specs.Result.{toldOf, resultOf, result, fileBytes}
 use Rattle.spec.specs.Check.{jobFault, resultSize}
 use Rattle.spec.specs.Outcome.{resultBytes}
 use Rattle.spec.specs.Proper.{FileOk}

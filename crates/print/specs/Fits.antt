@@ -1,9 +1,8 @@
 -- The result of an accepted job fits its fields: turns used, charges, moments and counts, and its charge file is a proper one.
-use Prim.Native.Nat.{ℕ, zero, suc, _+_, _^_, _<_, _≤_}
-use mathlib.Core.Path.{_≡_, refl, sym, ap, _∙_}
+use Prim.Native.Nat.{ℕ, suc, _<_, _≤_}
+use mathlib.Core.Path.{_≡_, _∙_}
 use mathlib.Core.List.{List, [], _∷_, map}
-use mathlib.Core.Bool.{Bool, true, false}
-use mathlib.Core.Option.{Option, none, some, Option·none-ne-some}
+use mathlib.Core.Option.{none, some, Option·none-ne-some}
 use native.Mathlib.Omega.{arith}
 use lib.ListN.{length, getD, length-map}
 use lib.Dec.{eqb}
@@ -11,11 +10,11 @@ use borrow.Author.Tests.{eqb-true}
 use Rattle.spec.specs.Basics.{if}
 use Rattle.spec.specs.Bytes.{AreBytes}
 use Rattle.spec.specs.File.{File}
-use Rattle.spec.specs.Job.{Job, maxOps}
+use Rattle.spec.specs.Job.{Job}
 use Rattle.spec.specs.Decode.{jobOf}
-use Rattle.spec.specs.State.{Row, State, gone}
+use Rattle.spec.specs.State.{Row, gone}
 use Rattle.spec.specs.Run.{rowOf, run}
-use Rattle.spec.specs.Result.{Line, underWay, countUnder, toldOf, logOf, resultOf, result}
+use Rattle.spec.specs.Result.{countUnder, toldOf, logOf, resultOf, result}
 use Rattle.spec.specs.Check.{jobFault}
 use Rattle.spec.specs.Proper.{Each, FileOk}
 use Rattle.spec.specs.Claims.{noLine}

@@ -11,7 +11,7 @@ use Rattle.spec.specs.State.{Answer, same, answer, Move, blank}
 use Rattle.spec.specs.State.{Row as State-Row}
 use Rattle.spec.specs.Run.{codeAfter, chargeAfter, momentAfter, rowAfter}
 use Rattle.turn.specs.declared.Row.{Row}
-use Rattle.turn.specs.Rows.{taskNumbers, partNumbers, stageNumbers, numbers, rowWith, blankRow, rowImage, stageIn, moved, answered}
+use Rattle.turn.specs.Rows.{taskNumbers, partNumbers, stageNumbers, rowWith, blankRow, rowImage, stageIn, moved, answered}
 
 numbers-back : (st : Stage) (u k c m : ℕ) → stageIn (rowWith (stageNumbers st) u k c m) ≡ st
 unfolding stageIn stageNumbers taskNumbers partNumbers if

@@ -1,10 +1,9 @@
 -- A working memory that shows a state of the machine: what is read of it is what the state has.
-use Prim.Native.Nat.{ℕ, zero, suc, _+_, _^_, _≤_, _<_}
+use Prim.Native.Nat.{ℕ, _^_, _≤_, _<_}
 use mathlib.Core.Path.{_≡_}
-use mathlib.Core.List.{List, [], _∷_}
-use mathlib.Core.Bool.{Bool, true, false}
+use mathlib.Core.List.{List}
+use mathlib.Core.Bool.{false}
 use lib.ListN.{length, getD}
-use Rattle.spec.specs.Key.{begins}
 use Rattle.spec.specs.File.{File, pageAt, entryAt}
 use Rattle.spec.specs.Encode.{pageBytes}
 use Rattle.spec.specs.Split.{digit}
@@ -14,7 +13,6 @@ use Rattle.spec.specs.Check.{workSize}
 use Rattle.laws.specs.Turns.Slots.{Slots}
 use Rattle.memory.specs.declared.Shape.{Shape}
 use Rattle.memory.specs.Memory.{entryIn, lockIn, usedIn, turnIn, partIn}
-use Rattle.turn.specs.declared.Row.{Row}
 use Rattle.turn.specs.Rows.{rowImage}
 use Rattle.turn.specs.Steps.{Out}
 

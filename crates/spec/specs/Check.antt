@@ -1,7 +1,7 @@
 -- "Refused jobs": for each number of the table, the lowest place at which its row holds, and the first fault of a job.
-use Prim.Native.Nat.{ℕ, zero, suc, _+_, _*_, _^_}
+use Prim.Native.Nat.{ℕ, suc, _+_, _*_, _^_}
 use mathlib.Core.List.{List, [], _∷_}
-use mathlib.Core.Bool.{Bool, true, false, not, _&&_, _||_}
+use mathlib.Core.Bool.{Bool, not, _&&_, _||_}
 use mathlib.Core.Option.{Option, none, some}
 use lib.ListN.{length, take, drop}
 use lib.Dec.{ltb, leb, eqb}
@@ -10,7 +10,7 @@ use Rattle.spec.specs.Basics.{when, orElse, isSome, among, firstOf, anyO
 use Rattle.spec.specs.Bytes.{byte, word, long, zeros}
 use Rattle.spec.specs.Key.{index, begins}
 use Rattle.spec.specs.File.{Page, File, pageAt, pagesInUse, findIn}
-use Rattle.spec.specs.Job.{maxDepth, maxCapacity, maxPages, maxOps, maxTurns, Header, headerSize, version, versionAt, gAt, cAt, limitAt, usedAt, opCountAt, turnCountAt, directoryOffsetAt, tableOffsetAt, opsOffsetAt, turnsOffsetAt, totalAt, recordSize, pageSize, directoryOffset, tableOffset, opsOffset, turnsOffset, total, entryPlace, pagePlace, recordPlace, opPlace, turnPlace, fileLength}
+use Rattle.spec.specs.Job.{maxDepth, maxCapacity, maxPages, maxOps, maxTurns, Header, headerSize, version, versionAt, gAt, cAt, limitAt, usedAt, opCountAt, turnCountAt, directoryOffsetAt, tableOffsetAt, opsOffsetAt, turnsOffsetAt, totalAt, recordSize, directoryOffset, tableOffset, opsOffset, turnsOffset, total, entryPlace, pagePlace, recordPlace, opPlace, turnPlace, fileLength}
 use Rattle.spec.specs.Decode.{headerOf, fileOf, pageParts, opParts, turnParts, numberOf}
 
 unfoldable pub outside : ℕ → ℕ → ℕ → Bool

@@ -1,27 +1,25 @@
 -- Demand 3 as one record, `Explained`, and what is claimed: it holds for every accepted job, given as bytes. Definitions only.
-use Prim.Native.Nat.{ℕ, zero, suc, _+_, _<_, _≤_}
+use Prim.Native.Nat.{ℕ, suc, _<_, _≤_}
 use mathlib.Core.Path.{_≡_}
 use mathlib.Core.Logic.{_⊎_, _↔_}
 use mathlib.Core.List.{List, [], _∷_, map}
-use mathlib.Core.Bool.{Bool, true, false}
-use mathlib.Core.Option.{Option, none, some}
+use mathlib.Core.Bool.{true}
+use mathlib.Core.Option.{none}
 use lib.ListN.{length, getD, take}
 use lib.Dec.{eqb}
 use Rattle.spec.specs.declared.Rec.{Rec}
 use Rattle.spec.specs.declared.Op.{Op}
-use Rattle.spec.specs.declared.Kind.{Kind}
 use Rattle.spec.specs.declared.Kind.the-variants.{Search}
-use Rattle.spec.specs.declared.Stage.{Stage}
 use Rattle.spec.specs.declared.Stage.the-variants.{Done}
 use Rattle.spec.specs.Basics.{if}
 use Rattle.spec.specs.Code.{notYet, noDepth, noPage}
-use Rattle.spec.specs.File.{File, findIn, contents}
+use Rattle.spec.specs.File.{findIn, contents}
 use Rattle.spec.specs.Job.{Job, noOp}
 use Rattle.spec.specs.Decode.{jobOf}
 use Rattle.spec.specs.State.{State}
 use Rattle.spec.specs.Run.{idle, stageOf, steps, start, run}
 use Rattle.spec.specs.Result.{Told, Line, result}
-use Rattle.spec.specs.PlainList.{Reply, replyOf, nothingTold, Replay, replay}
+use Rattle.spec.specs.PlainList.{replyOf, nothingTold, Replay, replay}
 use Rattle.spec.specs.Check.{jobFault}
 use Rattle.spec.specs.Proper.{NoneTwice}
 

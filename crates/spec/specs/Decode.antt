@@ -1,5 +1,5 @@
 -- "The job, byte by byte": what any bytes say, read as a job. Total: it says what they mean once no row of the refusal table holds.
-use Prim.Native.Nat.{ℕ, _+_, _^_}
+use Prim.Native.Nat.{ℕ, _^_}
 use mathlib.Core.List.{List, _∷_, map}
 use lib.ListN.{drop}
 use Rattle.spec.specs.declared.Rec.{Rec}

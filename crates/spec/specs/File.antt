@@ -1,7 +1,7 @@
 -- "The file": pages, directory, and what the file holds.
 use Prim.Native.Nat.{ℕ, zero, suc, _^_}
 use mathlib.Core.List.{List, [], _∷_, _++_}
-use mathlib.Core.Bool.{Bool, true, false, not}
+use mathlib.Core.Bool.{Bool, not}
 use mathlib.Core.Option.{Option, none, some}
 use lib.ListN.{getD, take, drop}
 use lib.Dec.{eqb}

@@ -1,7 +1,7 @@
 -- "The file": pseudo keys, the bits that they begin with, and directory indices.
 -- Of the pseudo key itself nothing else is used than that it has 32 bits: two calls may share one.
 use Prim.Native.Nat.{ℕ, zero, suc, _+_, _-_, _*_, _/_, _%_, _^_}
-use mathlib.Core.Bool.{Bool, true, false}
+use mathlib.Core.Bool.{Bool}
 use lib.Dec.{eqb}
 use Rattle.spec.specs.Basics.{if}
 

@@ -12,7 +12,7 @@ use Rattle.spec.specs.Decode.{jobOf}
 use Rattle.spec.specs.Run.{run}
 use Rattle.spec.specs.PlainList.{Reply, Replay}
 use Rattle.spec.specs.Check.{Lent}
-use Rattle.spec.specs.Outcome.{outcome, bufferAfter, rowsAfter, workAfter}
+use Rattle.spec.specs.Outcome.{outcome, bufferAfter}
 use Rattle.spec.specs.Report.{printed}
 use Rattle.spec.specs.Claims.{log, fed}
 use Rattle.spec.specs.Worked.{jobB, resultB, textB, jobLong, jobC, resultC, jobInsert, resultD, jobG, resultG, jobH, resultH, jobI, resultI, jobJ, resultJ}

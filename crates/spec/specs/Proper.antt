@@ -1,9 +1,9 @@
 -- What the file of an accepted job is: rows 3, 5, 6, 7 and 8 of the refusal table, as properties of the file.
-use Prim.Native.Nat.{ℕ, zero, suc, _+_, _^_, _<_, _≤_}
+use Prim.Native.Nat.{ℕ, suc, _^_, _<_, _≤_}
 use mathlib.Core.Path.{_≡_}
 use mathlib.Core.List.{List, [], _∷_}
-use mathlib.Core.Bool.{Bool, true}
-use mathlib.Core.Option.{Option, none}
+use mathlib.Core.Bool.{true}
+use mathlib.Core.Option.{none}
 use lib.ListN.{length, getD}
 use Rattle.spec.specs.declared.Rec.{Rec}
 use Rattle.spec.specs.Key.{index, begins}

@@ -1,7 +1,7 @@
 -- "Turns": what the next turn of an operation does, stage by stage.
-use Prim.Native.Nat.{ℕ, zero, suc, _+_, _-_, _^_}
+use Prim.Native.Nat.{ℕ, suc, _+_, _-_, _^_}
 use mathlib.Core.List.{List, [], _∷_}
-use mathlib.Core.Bool.{Bool, true, false, _&&_}
+use mathlib.Core.Bool.{true, false, _&&_}
 use mathlib.Core.Option.{Option, none, some}
 use lib.ListN.{length, getD}
 use lib.Dec.{ltb, eqb}
@@ -20,7 +20,7 @@ use Rattle.spec.specs.Code.{found, notFound, stored, alreadyThere, delet
 use Rattle.spec.specs.Key.{index}
 use Rattle.spec.specs.File.{Page, File, zeroPage, pageAt, entryAt, findIn, without}
 use Rattle.spec.specs.Split.{Grown, added, grow, allShare, newOwner, nextEntry}
-use Rattle.spec.specs.State.{Change, State, Answer, same, answer, Move, go, goLock, goPage, goEntry}
+use Rattle.spec.specs.State.{Change, State, same, answer, Move, go, goLock, goPage, goEntry}
 
 -- the call's own entry, and the page that it names: what reading the entry reads
 unfoldable pub homeOf : File → Op → ℕ

@@ -1,6 +1,6 @@
 -- Which new page an entry goes to, split by split: k splits are passed, and n are made of a page of depth d.
-use mathlib.Core.Path.{_≡_, refl}
-use mathlib.Core.Bool.{Bool, true, false, not, Bool·beq}
+use mathlib.Core.Path.{_≡_}
+use mathlib.Core.Bool.{true, false, Bool·beq}
 use Prim.Native.Nat.{ℕ, suc, _+_, _-_, _≤_, _<_}
 use native.Mathlib.Omega.{arith}
 use Rattle.spec.specs.Basics.{if}

@@ -3,19 +3,15 @@ use Rattle.chargefile.proofs.Laws.{place-set, place-none}
 use Rattle.chargefile.proofs.put_place.Statement.{statement}
 use Rattle.chargefile.proofs.put_place.Tie as tie
 
--- src/lib.rt:13:9
 slice-write-places : tie.Need-slice-write-places
 slice-write-places c = search needs
 
--- src/lib.rt:9:1
 same-length : tie.Need-same-length
 same-length c = search needs
 
--- src/lib.rt:9:1
 returns : tie.Need-returns
 returns c = place-set (c .before .args .places .now) (c .before .args .place) (c .if1 .taken)
 
--- src/lib.rt:9:1
 returns-2 : tie.Need-returns-2
 returns-2 c = place-none (c .before .args .places .now) (c .before .args .place) (c .if1 .left)
 

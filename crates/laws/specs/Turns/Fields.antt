@@ -21,7 +21,7 @@ use Rattle.spec.specs.File.{File, pageAt}
 use Rattle.spec.specs.Job.{Job, noOp, maxDepth, maxPages, maxTurns}
 use Rattle.spec.specs.Code.{notYet}
 use Rattle.spec.specs.State.{Row, State, Answer}
-use Rattle.spec.specs.Turn.{recOf, turn}
+use Rattle.spec.specs.Turn.{turn}
 use Rattle.spec.specs.Run.{codeAfter, chargeAfter, momentAfter, rowOf, stageOf, step, start, run}
 use Rattle.spec.specs.Proper.{Fit, PageOk, FileOk}
 use Rattle.spec.specs.Claims.{stateAt}

@@ -6,7 +6,6 @@ use mathlib.Core.List.{List}
 use native.Mathlib.Omega.{arith}
 use lib.ListN.{length, getD}
 use Rattle.spec.specs.declared.Op.{Op}
-use Rattle.spec.specs.declared.Stage.{Stage}
 use Rattle.spec.specs.File.{File, entryAt}
 use Rattle.spec.specs.Job.{Job, noOp}
 use Rattle.spec.specs.State.{State, Move}
@@ -19,7 +18,7 @@ use Rattle.laws.specs.Turns.Good.{Good}
 use Rattle.laws.specs.Turns.Does.{Tidy, Starts}
 use Rattle.laws.specs.Turns.Tidy.{i-does}
 use Rattle.laws.specs.Turns.Settled.{Settled}
-use Rattle.laws.specs.Turns.Reads.{Reading, reading, rereading}
+use Rattle.laws.specs.Turns.Reads.{Reading}
 use Rattle.laws.specs.Turns.States.{who, stateAt-suc, stateAt-zero}
 use Rattle.laws.specs.Turns.History.{new-reader}
 use Rattle.laws.specs.Turns.Whole.{whole}

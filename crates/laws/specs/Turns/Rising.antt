@@ -27,7 +27,7 @@ use Rattle.spec.specs.Claims.{stateAt}
 use Rattle.laws.specs.Tools.{if-true, if-false}
 use Rattle.laws.specs.Turns.Rows.{stage-after, step-case}
 use Rattle.laws.specs.Turns.Good.{Good}
-use Rattle.laws.specs.Turns.Does.{Tidy, Unreached, fresh, Starts, Does}
+use Rattle.laws.specs.Turns.Does.{Tidy, Unreached, Does}
 use Rattle.laws.specs.Turns.Tidy.{i-does}
 use Rattle.laws.specs.Turns.Settled.{Settled}
 use Rattle.laws.specs.Turns.Reads.{unreached-entry}

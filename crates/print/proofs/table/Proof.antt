@@ -4,11 +4,9 @@ use borrow.Author.Needs.{needs}
 use Rattle.print.proofs.table.Statement.{statement}
 use Rattle.print.proofs.table.Tie as tie
 
--- src/lib.rt:26:9
 blank-requires : tie.Need-blank-requires
 blank-requires c κs = search needs
 
--- src/lib.rt:23:1
 returns : tie.Need-returns
 returns c = ap (replicate 256) (c .blank .ensures)
 

@@ -6,9 +6,6 @@ use Rattle.spec.specs.declared.Found.the-variants.{Charge, Missing}
 use Rattle.probe.specs.Numbers.{foundNumber}
 use Rattle.probe.proofs.probe_find.Statement.{statement}
 use Rattle.probe.proofs.probe_find.Tie as tie
-use Rattle.probe.proofs.probe_find.Reads as reads
-use Rattle.probe.proofs.probe_find.Lts as lts
-use Rattle.page.proofs.find.Reads as find-reads
 
 charge-number : (f g : Found) (v : ℕ) → f ≡ g → f ≡ Charge v → v ≡ foundNumber g
 unfolding foundNumber
@@ -18,27 +15,21 @@ missing-number : (f g : Found) → f ≡ g → f ≡ Missing → 4294967296 ≡ 
 unfolding foundNumber
 missing-number f g e h = ap foundNumber (sym h ∙ e)
 
--- src/lib.rt:25:9
 find-requires : tie.Need-find-requires
 find-requires c κs = search needs
 
--- src/lib.rt:27:23
 enum-known-f : tie.Need-enum-known-f
 enum-known-f c = search needs
 
--- src/lib.rt:27:34
 cast-result : tie.Need-cast-result
 cast-result c = search needs
 
--- src/lib.rt:28:27
 enum-told : tie.Need-enum-told
 enum-told c = search needs
 
--- src/lib.rt:20:1
 returns : tie.Need-returns
 returns c = charge-number _ _ _ (c .before .before .before .find .ensures) (c .before .f .given .1)
 
--- src/lib.rt:20:1
 returns-2 : tie.Need-returns-2
 returns-2 c = missing-number _ _ (c .before .before .find .ensures) (c .enum-told .given .1)
 

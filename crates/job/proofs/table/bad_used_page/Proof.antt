@@ -1,12 +1,7 @@
-use mathlib.Core.Bool.{not, _&&_, _||_}
 use mathlib.Core.Path.{_≡_}
-use Prim.Native.Nat.{_+_, _*_, _%_, _^_}
+use Prim.Native.Nat.{_*_, _%_, _^_}
 use native.Mathlib.Omega.{arith}
-use lib.ListN.{drop}
-use lib.Dec.{ltb}
 use borrow.Author.Tests.{lt-ltb, le-ltb, le-leb, lt-leb}
-use Rattle.spec.specs.Bytes.{zeros}
-use Rattle.header.specs.Counts.{countsOf}
 use Rattle.job.specs.Pages.{badHead}
 use Rattle.job.proofs.Sizes.{shifted}
 use Rattle.job.proofs.table.bad_used_page.Statement.{statement}
