@@ -5,5 +5,4 @@ pub mod Closing
 pub mod Ends
 pub mod Accepting
 pub mod Headers
-pub mod Calls
 pub mod Lent

@@ -21,8 +21,8 @@ use ghost.Atoms.{Atoms}
 use contract.Monad.{Fun}
 use contract.Running.{givenOf, tables, tablesOf}
 use types.Kit.{Given, Item, Sq, runs, atRet, ‵, _⊛_, ⋆, _$_, _∵_, !, qed, by, move, drop, use1, split, join, rewrite, fsplit, fjoin, feqL, suffices, frame, done}
-use types.Run.{look, init, forget, stop, hop, fld, from, load, addr, of-opd, and-then, no-more, assigns, land, land-last, first, branches, exec, returns, enter, alloc1, alloc0, params1, pass1, pass0, free1, free0}
-use types.Part.{agg, whole, sub, look-in}
+use types.Run.{look, init, forget, stop, fld, from, load, of-opd, and-then, no-more, assigns, land, land-last, first, branches, exec, returns, enter, alloc1, alloc0, params1, pass1, pass0, free1, free0}
+use types.Part.{whole, sub, look-in}
 use sound.WpLaws.{FmC, fmOf, WpFn-mono}
 use denote.RattleType.{owns}
 use denote.Laws.{Is, shows}
@@ -52,8 +52,9 @@ use Rattle.turn.proofs.Row as T
 use Rattle.run.specs.Answer.{isAccepted, refusedBy, ranFor}
 use Rattle.run.specs.Call.{lent, Accepted, Ran, Settled}
 use Rattle.run.proofs.Ends as ends
-use Rattle.run.proofs.Calls.{sure, calls, calls-last, gives-up}
-use Rattle.run.proofs.Lent.{word, job-ty, result-ty, rows-ty, work-ty, byte-ref, row-ref, s, Params, Values}
+use Rattle.table.proofs.Calls.{sure, calls, calls-last, gives-up, passes-on}
+use Rattle.table.proofs.Lent.{word, byte-ref, row-ref, s}
+use Rattle.run.proofs.Lent.{job-ty, result-ty, rows-ty, work-ty, Params, Values}
 use Rattle.run.proofs.check_all as check
 use Rattle.run.proofs.is_accepted as is-acc
 use Rattle.run.proofs.run_accepted as acc
@@ -180,12 +181,9 @@ module _ {M : Type 1} (𝓤 : URA M) (H : Heap 𝓤) (A : Atoms 𝓤) (W : Given
           first ! $ branches ! (load ! (from ! (stop !)) (look ! 16 refl))
           (λ h.
           let accepted = accepts (x₀ .now) (x₁ .now) (x₂ .now) (x₃ .now) c y e e′ h in
-          assigns ! (addr ! (from ! (fld ! refl (hop ! (look-in ! 32 (sub ! 0 refl (whole !))) (stop !))))) (from ! (stop !)) (init ! 12 refl (tt, tt)) $
-          assigns ! (agg ! (and-then ! (load ! (from ! (stop !)) (look ! 12 refl)) (and-then ! (load ! (from ! (fld ! refl (stop !))) (look-in ! 32 (sub ! 1 refl (whole !)))) (no-more !)))) (from ! (stop !)) (init ! 10 refl (tt, (tt, (record { fits = room₁ .0 }, tt)))) $
-          assigns ! (addr ! (from ! (fld ! refl (hop ! (look-in ! 30 (sub ! 0 refl (whole !))) (stop !))))) (from ! (stop !)) (init ! 8 refl (tt, tt)) $
-          assigns ! (agg ! (and-then ! (load ! (from ! (stop !)) (look ! 8 refl)) (and-then ! (load ! (from ! (fld ! refl (stop !))) (look-in ! 30 (sub ! 1 refl (whole !)))) (no-more !)))) (from ! (stop !)) (init ! 6 refl (tt, (tt, (record { fits = room₂ .0 }, tt)))) $
-          assigns ! (addr ! (from ! (fld ! refl (hop ! (look-in ! 28 (sub ! 0 refl (whole !))) (stop !))))) (from ! (stop !)) (init ! 4 refl (tt, tt)) $
-          assigns ! (agg ! (and-then ! (load ! (from ! (stop !)) (look ! 4 refl)) (and-then ! (load ! (from ! (fld ! refl (stop !))) (look-in ! 28 (sub ! 1 refl (whole !)))) (no-more !)))) (from ! (stop !)) (init ! 2 refl (tt, (tt, (record { fits = room₃ .0 }, tt)))) $
+          passes-on ! 32 12 10 (room₁ .0) refl refl refl refl refl refl refl refl $
+          passes-on ! 30 8 6 (room₂ .0) refl refl refl refl refl refl refl refl $
+          passes-on ! 28 4 2 (room₃ .0) refl refl refl refl refl refl refl refl $
           -- all that the parameters own goes to `run_accepted`
           calls ! fm acc.ended (acc.clauses 𝓤 H A mem run) (known .acc) Bound (id⊢ 𝓤 _) (id⊢ 𝓤 _) (sure 𝓤 accepted) (and-then ! (load ! (from ! (stop !)) (look ! 33 refl)) (and-then ! (load ! (from ! (stop !)) (look ! 9 refl)) (and-then ! (load ! (from ! (stop !)) (look ! 5 refl)) (and-then ! (load ! (from ! (stop !)) (look ! 1 refl)) (no-more !)))))
           (λ n zs. Ran (x₀ .now) (x₁ .now) (zs .1 .0) (x₂ .now) (zs .1 .1 .0) (x₃ .now) (zs .1 .1 .1 .0) n) (λ n zs. id⊢ 𝓤 _) (λ v n zs e₁.

@@ -20,8 +20,8 @@ use ghost.Atoms.{Atoms}
 use contract.Monad.{Fun}
 use contract.Running.{givenOf, tables, tablesOf}
 use types.Kit.{Given, Item, Sq, runs, atRet, ‵, _⊛_, ⋆, _$_, _∵_, !, qed, by, move, keep, drop, use1, split, join, rewrite, fsplit, fjoin, feqL, suffices, frame, done}
-use types.Run.{look, init, forget, stop, hop, fld, from, load, addr, and-then, no-more, assigns, land, returns, enter, alloc1, alloc0, params1, pass1, pass0, free1, free0}
-use types.Part.{agg, whole, sub, look-in}
+use types.Run.{look, init, forget, stop, fld, from, load, and-then, no-more, land, returns, enter, alloc1, alloc0, params1, pass1, pass0, free1, free0}
+use types.Part.{whole, sub, look-in}
 use sound.WpLaws.{FmC, fmOf, WpFn-mono}
 use denote.RattleType.{owns}
 use denote.Laws.{Is, shows}
@@ -61,8 +61,9 @@ use Rattle.run.specs.Table.{allTurns}
 use Rattle.run.specs.Call.{Accepted, Ran}
 use Rattle.run.proofs.Accepting.{read-asks, load-asks, work₁, first as begin, first-is, turns-may, tell-asks, close-asks, all-ran}
 use Rattle.run.proofs.Headers.{headerVal, IsHeader, header-tells, header-is, header-typed, own-header}
-use Rattle.run.proofs.Calls.{sure, calls, shares-out, takes-back}
-use Rattle.run.proofs.Lent.{word, job-ty, result-ty, rows-ty, work-ty, byte-ref, row-ref, row-shr, s, at, Params, Values}
+use Rattle.table.proofs.Calls.{sure, calls, shares-out, takes-back, passes-on}
+use Rattle.table.proofs.Lent.{word, byte-ref, row-ref, row-shr, s, at, vs}
+use Rattle.run.proofs.Lent.{job-ty, result-ty, rows-ty, work-ty, Params, Values}
 use Rattle.run.proofs.load as load-fn
 use Rattle.run.proofs.take_turns as turns-fn
 use Rattle.run.proofs.close as close
@@ -102,10 +103,6 @@ module _ {M : Type 1} (𝓤 : URA M) (H : Heap 𝓤) (A : Atoms 𝓤) (W : Given
 
   abbrev n₃ : ℕ
   n₃ = length (x₃ .now)
-
-  -- a slice's machine value at the list l
-  abbrev vs : {X : Type 0} → RefT (List X) → List X → List Val
-  vs y l = sliceVal (y .ptr .0, y .ptr .1) (length l) ∷ []
 
   abbrev params : Params
   params = (x₀, (x₁, (x₂, (x₃, tt))))
@@ -182,11 +179,9 @@ module _ {M : Type 1} (𝓤 : URA M) (H : Heap 𝓤) (A : Atoms 𝓤) (W : Given
           → y ≡ replicate (length z₂) blankRow → length y ≡ n₂
           → Sq W (‵ (flft κ q) ∷ job ∷ Result r₃ ∷ ‵ (flft κ₁ q₁) ∷ ‵ (finally T.the-row (x₂ .name) y) ∷ ‵ (flft κ₂ q₂) ∷ Work w₃ ∷ ‵ (flft κ₃ q₃) ∷ Between (‵ (fat fullShare word l₇ 0 (vint w64 m)))) (runs C Λ E body.t-24 (atRet E Post))
       closes z₂ w₂ r₃ w₃ m y t c₂ d f l =
-          assigns ! (addr ! (from ! (fld ! refl (hop ! (look-in ! 60 (sub ! 0 refl (whole !))) (stop !))))) (from ! (stop !)) (init ! 14 refl (tt, tt)) $
-          assigns ! (agg ! (and-then ! (load ! (from ! (stop !)) (look ! 14 refl)) (and-then ! (load ! (from ! (fld ! refl (stop !))) (look-in ! 60 (sub ! 1 refl (whole !)))) (no-more !)))) (from ! (stop !)) (init ! 12 refl (tt, (tt, (record { fits = room₁ .0 }, tt)))) $
+          passes-on ! 60 14 12 (room₁ .0) refl refl refl refl refl refl refl refl $
           rewrite ! 12 (λ (j : ℕ). ‵ (fat fullShare (sliceTy byte-ref) l₂₆ 0 (sliceVal (x₁ .ptr) j))) (sym (d .1)) refl $
-          assigns ! (addr ! (from ! (fld ! refl (hop ! (look-in ! 56 (sub ! 0 refl (whole !))) (stop !))))) (from ! (stop !)) (init ! 10 refl (tt, tt)) $
-          assigns ! (agg ! (and-then ! (load ! (from ! (stop !)) (look ! 10 refl)) (and-then ! (load ! (from ! (fld ! refl (stop !))) (look-in ! 56 (sub ! 1 refl (whole !)))) (no-more !)))) (from ! (stop !)) (init ! 8 refl (tt, (tt, (record { fits = room₃ .0 }, tt)))) $
+          passes-on ! 56 10 8 (room₃ .0) refl refl refl refl refl refl refl refl $
           rewrite ! 8 (λ (j : ℕ). ‵ (fat fullShare (sliceTy byte-ref) l₂₈ 0 (sliceVal (x₃ .ptr) j))) (sym (d .2)) refl $
           -- result and work go to `close` for good
           nothing ! $ move ! (7 ∷ 0 ∷ []) $ fjoin ! $ move ! (3 ∷ 0 ∷ []) $ fjoin ! $ owned ! usize (Is usize) (uint-makes 𝓤 H A W w64) m _ (refl, d .3) $ fjoin ! $ own-header ! h _ is-h $ fjoin ! $
@@ -210,8 +205,7 @@ module _ {M : Type 1} (𝓤 : URA M) (H : Heap 𝓤) (A : Atoms 𝓤) (W : Given
       clears : (z₂ : List Row) (w₂ r₃ w₃ : List ℕ) (m : ℕ) → both z₂ w₂ ≡ last → length z₂ ≡ n₂ → IsTold h z₂ w₂ r₃ w₃ m
           → Sq W (Has r₃ z₂ w₃ (Between (‵ (fat fullShare word l₇ 0 (vint w64 m))))) (runs C Λ E body.t-21 (atRet E Post))
       clears z₂ w₂ r₃ w₃ m t c₂ d =
-          assigns ! (addr ! (from ! (fld ! refl (hop ! (look-in ! 58 (sub ! 0 refl (whole !))) (stop !))))) (from ! (stop !)) (init ! 18 refl (tt, tt)) $
-          assigns ! (agg ! (and-then ! (load ! (from ! (stop !)) (look ! 18 refl)) (and-then ! (load ! (from ! (fld ! refl (stop !))) (look-in ! 58 (sub ! 1 refl (whole !)))) (no-more !)))) (from ! (stop !)) (init ! 16 refl (tt, (tt, (record { fits = room₂ .0 }, tt)))) $
+          passes-on ! 58 18 16 (room₂ .0) refl refl refl refl refl refl refl refl $
           rewrite ! 16 (λ (j : ℕ). ‵ (fat fullShare (sliceTy row-ref) l₂₄ 0 (sliceVal (x₂ .ptr) j))) (sym c₂) refl $
           -- the table goes to `fill` for good
           move ! (4 ∷ []) $ nothing ! $ own-row ! r wr is-r $ fjoin ! $ move ! (1 ∷ 0 ∷ []) $ fjoin ! $
@@ -233,13 +227,10 @@ module _ {M : Type 1} (𝓤 : URA M) (H : Heap 𝓤) (A : Atoms 𝓤) (W : Given
           → Sq W (Has (x₁ .now) z₂ w₂ (Between (‵ (froom word l₇ 0)))) (runs C Λ E body.t-14 (atRet E Post))
       tells z₂ w₂ t c₂ c₃ =
           let asked = tell-asks a h e (both z₂ w₂) t in
-          assigns ! (addr ! (from ! (fld ! refl (hop ! (look-in ! 58 (sub ! 0 refl (whole !))) (stop !))))) (from ! (stop !)) (init ! 30 refl (tt, tt)) $
-          assigns ! (agg ! (and-then ! (load ! (from ! (stop !)) (look ! 30 refl)) (and-then ! (load ! (from ! (fld ! refl (stop !))) (look-in ! 58 (sub ! 1 refl (whole !)))) (no-more !)))) (from ! (stop !)) (init ! 28 refl (tt, (tt, (record { fits = room₂ .0 }, tt)))) $
+          passes-on ! 58 30 28 (room₂ .0) refl refl refl refl refl refl refl refl $
           rewrite ! 28 (λ (j : ℕ). ‵ (fat fullShare (sliceTy row-shr) l₁₈ 0 (sliceVal (x₂ .ptr) j))) (sym c₂) refl $
-          assigns ! (addr ! (from ! (fld ! refl (hop ! (look-in ! 60 (sub ! 0 refl (whole !))) (stop !))))) (from ! (stop !)) (init ! 26 refl (tt, tt)) $
-          assigns ! (agg ! (and-then ! (load ! (from ! (stop !)) (look ! 26 refl)) (and-then ! (load ! (from ! (fld ! refl (stop !))) (look-in ! 60 (sub ! 1 refl (whole !)))) (no-more !)))) (from ! (stop !)) (init ! 24 refl (tt, (tt, (record { fits = room₁ .0 }, tt)))) $
-          assigns ! (addr ! (from ! (fld ! refl (hop ! (look-in ! 56 (sub ! 0 refl (whole !))) (stop !))))) (from ! (stop !)) (init ! 22 refl (tt, tt)) $
-          assigns ! (agg ! (and-then ! (load ! (from ! (stop !)) (look ! 22 refl)) (and-then ! (load ! (from ! (fld ! refl (stop !))) (look-in ! 56 (sub ! 1 refl (whole !)))) (no-more !)))) (from ! (stop !)) (init ! 20 refl (tt, (tt, (record { fits = room₃ .0 }, tt)))) $
+          passes-on ! 60 26 24 (room₁ .0) refl refl refl refl refl refl refl refl $
+          passes-on ! 56 22 20 (room₃ .0) refl refl refl refl refl refl refl refl $
           rewrite ! 20 (λ (j : ℕ). ‵ (fat fullShare (sliceTy byte-ref) l₂₂ 0 (sliceVal (x₃ .ptr) j))) (sym c₃) refl $
           -- work and result are lent again, and the table as a `&`
           move ! (6 ∷ 7 ∷ []) $ lends ! tt u8 (named 3) (named 2) (x₃ .name) (x₃ .ptr .0) (x₃ .ptr .1) w₂ (λ ν₃ δ₃.
@@ -268,11 +259,9 @@ module _ {M : Type 1} (𝓤 : URA M) (H : Heap 𝓤) (A : Atoms 𝓤) (W : Given
       -- `take_turns`
       turns : (z₁ : List Row) (w₁ : List ℕ) → both z₁ w₁ ≡ begin a h e → length z₁ ≡ n₂ → length w₁ ≡ n₃ → Sq W (Has (x₁ .now) z₁ w₁ (Between (‵ (froom word l₇ 0)))) (runs C Λ E body.t-9 (atRet E Post))
       turns z₁ w₁ f c₂ c₃ =
-          assigns ! (addr ! (from ! (fld ! refl (hop ! (look-in ! 58 (sub ! 0 refl (whole !))) (stop !))))) (from ! (stop !)) (init ! 38 refl (tt, tt)) $
-          assigns ! (agg ! (and-then ! (load ! (from ! (stop !)) (look ! 38 refl)) (and-then ! (load ! (from ! (fld ! refl (stop !))) (look-in ! 58 (sub ! 1 refl (whole !)))) (no-more !)))) (from ! (stop !)) (init ! 36 refl (tt, (tt, (record { fits = room₂ .0 }, tt)))) $
+          passes-on ! 58 38 36 (room₂ .0) refl refl refl refl refl refl refl refl $
           rewrite ! 36 (λ (j : ℕ). ‵ (fat fullShare (sliceTy row-ref) l₁₄ 0 (sliceVal (x₂ .ptr) j))) (sym c₂) refl $
-          assigns ! (addr ! (from ! (fld ! refl (hop ! (look-in ! 56 (sub ! 0 refl (whole !))) (stop !))))) (from ! (stop !)) (init ! 34 refl (tt, tt)) $
-          assigns ! (agg ! (and-then ! (load ! (from ! (stop !)) (look ! 34 refl)) (and-then ! (load ! (from ! (fld ! refl (stop !))) (look-in ! 56 (sub ! 1 refl (whole !)))) (no-more !)))) (from ! (stop !)) (init ! 32 refl (tt, (tt, (record { fits = room₃ .0 }, tt)))) $
+          passes-on ! 56 34 32 (room₃ .0) refl refl refl refl refl refl refl refl $
           rewrite ! 32 (λ (j : ℕ). ‵ (fat fullShare (sliceTy byte-ref) l₁₆ 0 (sliceVal (x₃ .ptr) j))) (sym c₃) refl $
           move ! (6 ∷ 7 ∷ []) $ lends ! tt u8 (named 3) (named 2) (x₃ .name) (x₃ .ptr .0) (x₃ .ptr .1) w₁ (λ ν₃ δ₃.
           move ! (7 ∷ 8 ∷ []) $ lends ! tt T.the-row (named 2) (named 1) (x₂ .name) (x₂ .ptr .0) (x₂ .ptr .1) z₁ (λ ν₂ δ₂.
@@ -297,8 +286,7 @@ module _ {M : Type 1} (𝓤 : URA M) (H : Heap 𝓤) (A : Atoms 𝓤) (W : Given
       -- the first `fill`
       fills : (w₁ : List ℕ) → w₁ ≡ work₁ a h e → length w₁ ≡ n₃ → Sq W (Has (x₁ .now) (x₂ .now) w₁ (Between (‵ (froom word l₇ 0)))) (runs C Λ E body.t-6 (atRet E Post))
       fills w₁ e₁ l₁ =
-          assigns ! (addr ! (from ! (fld ! refl (hop ! (look-in ! 58 (sub ! 0 refl (whole !))) (stop !))))) (from ! (stop !)) (init ! 42 refl (tt, tt)) $
-          assigns ! (agg ! (and-then ! (load ! (from ! (stop !)) (look ! 42 refl)) (and-then ! (load ! (from ! (fld ! refl (stop !))) (look-in ! 58 (sub ! 1 refl (whole !)))) (no-more !)))) (from ! (stop !)) (init ! 40 refl (tt, (tt, (record { fits = room₂ .0 }, tt)))) $
+          passes-on ! 58 42 40 (room₂ .0) refl refl refl refl refl refl refl refl $
           move ! (4 ∷ 5 ∷ []) $ lends ! tt T.the-row (named 2) (named 0) (x₂ .name) (x₂ .ptr .0) (x₂ .ptr .1) (x₂ .now) (λ ν δ.
           -- [ν; rows; what is kept of it; the job's token; job; result; its; work; its; _28 (9); …]
           nothing ! $ own-row ! r wr is-r $ fjoin ! $ move ! (2 ∷ 0 ∷ []) $ fjoin ! $ nothing ! $ move ! (2 ∷ 0 ∷ []) $ join ! $
@@ -316,8 +304,7 @@ module _ {M : Type 1} (𝓤 : URA M) (H : Heap 𝓤) (A : Atoms 𝓤) (W : Given
       -- `load`
       loads : Sq W (Has (x₁ .now) (x₂ .now) (x₃ .now) (Between (‵ (froom word l₇ 0)))) (runs C Λ E body.t-3 (atRet E Post))
       loads =
-          assigns ! (addr ! (from ! (fld ! refl (hop ! (look-in ! 56 (sub ! 0 refl (whole !))) (stop !))))) (from ! (stop !)) (init ! 46 refl (tt, tt)) $
-          assigns ! (agg ! (and-then ! (load ! (from ! (stop !)) (look ! 46 refl)) (and-then ! (load ! (from ! (fld ! refl (stop !))) (look-in ! 56 (sub ! 1 refl (whole !)))) (no-more !)))) (from ! (stop !)) (init ! 44 refl (tt, (tt, (record { fits = room₃ .0 }, tt)))) $
+          passes-on ! 56 46 44 (room₃ .0) refl refl refl refl refl refl refl refl $
           -- work is lent again, the job is copied, and both go to `load` with what the header owns, which is made anew
           move ! (6 ∷ 7 ∷ []) $ lends ! tt u8 (named 3) (named 1) (x₃ .name) (x₃ .ptr .0) (x₃ .ptr .1) (x₃ .now) (λ ν δ.
           -- [ν; work; what is kept of it; the job's token; job (4); result; its; rows; its; _28 (9); …]

@@ -16,11 +16,10 @@ use prog.Memory.{Memory}
 use prog.Routine.{Routine}
 use prog.Wp.{Heap, Calls, Loops, WpFn, Tables}
 use ghost.Atoms.{Atoms}
-use contract.Monad.{Fun, fact}
+use contract.Monad.{Fun}
 use contract.Running.{givenOf, tables, tablesOf}
-use types.Kit.{Given, Item, ‵, raw, _⊛_, some, later, mean, ⋆, _$_, _∵_, !, qed, by, move, keep, drop, use1, use2, split, join, pick, await, group, rewrite, fsplit, fjoin, feqL, feqI, suffices, frame, done}
-use types.Part.{agg, whole, sub, look-in}
-use types.Run.{look, init, forget, stop, hop, fld, from, load, unit-lit, addr, of-opd, and-then, no-more, assigns, land, returns, enter, alloc1, alloc0, params1, pass1, pass0, free1, free0}
+use types.Kit.{Given, Item, ‵, _⊛_, ⋆, _$_, _∵_, !, qed, by, move, keep, drop, use1, use2, split, join, rewrite, fsplit, fjoin, feqL, feqI, suffices, frame, done}
+use types.Run.{look, init, forget, stop, from, load, unit-lit, of-opd, and-then, no-more, assigns, land, returns, enter, alloc1, alloc0, params1, pass1, pass0, free1, free0}
 use sound.WpLaws.{FmC, fmOf, WpFn-mono}
 use denote.RattleType.{owns}
 use denote.Laws.{Is, shows}
@@ -28,16 +27,14 @@ use denote.Plain.{nothing-lawful}
 use denote.Builtin.{u8, unit}
 use denote.Ref.{RefT, NamedLft, now}
 use denote.Signature.{plain, shrSliceOf, namedLft}
-use denote.Slice.{sliceVal, slice-vals, ShrSlice, MutSlice, Room, finally, shr-slice-tells, mut-slice-tells, shr-slice-lawful}
-use denote.Steps.{owned, peeks, heard, nothing}
+use denote.Slice.{slice-vals, ShrSlice, MutSlice, Room, finally, shr-slice-tells, mut-slice-tells, shr-slice-lawful}
+use denote.Steps.{owned, peeks, nothing}
 use denote.Struct.Laws as LL
-use denote.Triple.Statement.{Contract, Triple}
-use denote.Triple.Call.{calls-at}
-use denote.Triple.Entry.{Args, Vals, onEntry}
+use denote.Triple.Statement.{Triple}
+use denote.Triple.Entry.{onEntry}
 use denote.Triple.Spec.{Meets, tripleOf}
 use denote.Triple.Table.{entered, cited}
 use denote.Triple.Walked.{says, needs, Stays, stay-dropped, gave-slice, walkOf, goes-dropped, goes-gave-slice, Walks, ends-at, walked, walk-meets}
-use denote.Triple.Clauses.{ensured, lasts}
 use denote.Exit.{yes}
 use Rattle.header.specs.declared.Header.{Header}
 use Rattle.header.specs.Counts.{countsOf, Heads}
@@ -51,22 +48,17 @@ use Rattle.reader.specs.Parts.{opsIn, turnsIn}
 use Rattle.reader.specs.declared.Reader.{Reader}
 use Rattle.reader.proofs.Reader as T
 use Rattle.reader.proofs.Reader.Laws as T′
-use Rattle.reader.proofs.Calls.{Held, readerOf, section, New, Shows, tok, makes, shows-part}
-use Rattle.reader.proofs.Reader.new.Symbol as new-def
-use Rattle.reader.proofs.Reader.new.Met as new-thm
-use Rattle.reader.proofs.Reader.operations.Symbol as ops-def
-use Rattle.reader.proofs.Reader.operations.Met as ops-thm
-use Rattle.reader.proofs.Reader.turn_list.Symbol as list-def
-use Rattle.reader.proofs.Reader.turn_list.Met as list-thm
+use Rattle.reader.proofs.Calls.{Held, readerOf, section, New, Shows, makes, shows-part}
+use Rattle.reader.proofs.Reader.new as new
+use Rattle.reader.proofs.Reader.operations as ops
+use Rattle.reader.proofs.Reader.turn_list as list
 use Rattle.table.specs.Turns.{Both, both, Takes, runTurns}
+use Rattle.table.proofs.Calls.{sure, calls, passes-on}
+use Rattle.table.proofs.Lent.{s as slice}
 use Rattle.table.proofs.Shapes.{shape-typed}
 use Rattle.table.proofs.turns as turns
-use Rattle.table.proofs.turns.Symbol as turns-def
-use Rattle.table.proofs.turns.Met as turns-thm
 use Rattle.run.specs.Table.{shapeFor, allTurns}
 use Rattle.run.proofs.shape_of as shape
-use Rattle.run.proofs.shape_of.Symbol as shape-def
-use Rattle.run.proofs.shape_of.Met as shape-thm
 use Rattle.run.proofs.take_turns.Key.{name as #take-turns}
 use Rattle.run.proofs.take_turns as fn′
 use Rattle.run.proofs.take_turns.Statement as stated
@@ -93,17 +85,7 @@ told : (h : Header) (b : List ℕ) (u v : Both) → v ≡ written h b (count h b
 unfolding allTurns
 told h b u v e = e
 
--- the contracts that the proof cites
-abbrev ShapeOf : {M : Type 1} (𝓤 : URA M) (H : Heap 𝓤) (A : Atoms 𝓤) (mem : Memory → SProp 𝓤) (run : Routine → Fun 𝓤) → Contract 𝓤
-ShapeOf 𝓤 H A mem run = tripleOf 𝓤 H A shape.signature (shape.spec 𝓤 H A mem run)
-
-abbrev Turns : {M : Type 1} (𝓤 : URA M) (H : Heap 𝓤) (A : Atoms 𝓤) (mem : Memory → SProp 𝓤) (run : Routine → Fun 𝓤) → Contract 𝓤
-Turns 𝓤 H A mem run = tripleOf 𝓤 H A turns.signature (turns.spec 𝓤 H A mem run)
-
 module _ {M : Type 1} (𝓤 : URA M) (H : Heap 𝓤) (A : Atoms 𝓤) (W : Given 𝓤 H A) (mem : Memory → SProp 𝓤) (run : Routine → Fun 𝓤) (κ κ₁ κ₂ : Lft) (q q₁ q₂ : Share) (s : RefT (List ℕ)) (h : Header) (x₁ : RefT (List Row)) (x₂ : RefT (List ℕ)) where
-  abbrev slice : {X : Type 0} → RefT (List X) → Val
-  slice y = sliceVal (y .ptr) (length (y .now))
-
   abbrev a : RefT (List ℕ) × (Header × (RefT (List Row) × (RefT (List ℕ) × Unit {0})))
   a = (s, (h, (x₁, (x₂, tt))))
 
@@ -134,13 +116,6 @@ module _ {M : Type 1} (𝓤 : URA M) (H : Heap 𝓤) (A : Atoms 𝓤) (W : Given
   abbrev others : Item 𝓤
   others = ‵ (flft κ₁ q₁) ⊛ (‵ (flft κ₂ q₂) ⊛ ‵ ftrue)
 
-  -- the call of `shape_of`
-  abbrev to-shape : ShapeOf 𝓤 H A mem run .Ghost
-  to-shape = ((tt, tt, tt, (h, tt), (HT′.lowered h ∷ [], tt)), tt)
-
-  goes-shape : ent 𝓤 (mean 𝓤 H A (‵ (HT.the-row .own h (HT′.lowered h ∷ [])))) (ShapeOf 𝓤 H A mem run .pre to-shape)
-  goes-shape = qed W (‵ (HT.the-row .own h (HT′.lowered h ∷ [])) ∷ []) ∵ nothing ! $ move ! (1 ∷ 0 ∷ []) $ fjoin ! $ nothing ! $ join ! $ frame ! $ done !
-
   -- the tokens, with κ's in two
   abbrev toks : Item 𝓤
   toks = ‵ (flft κ₁ q₁) ⊛ (‵ (flft κ (PosShare·left q)) ⊛ (‵ (flft κ (PosShare·right q)) ⊛ (‵ (flft κ₂ q₂) ⊛ ‵ ftrue)))
@@ -154,32 +129,8 @@ module _ {M : Type 1} (𝓤 : URA M) (H : Heap 𝓤) (A : Atoms 𝓤) (W : Given
       move ! (2 ∷ 1 ∷ []) $ join ! $ move ! (1 ∷ 0 ∷ []) $ join ! $ frame ! $
       nothing ! $ move ! (2 ∷ 0 ∷ []) $ fjoin ! $ move ! (1 ∷ 0 ∷ []) $ fjoin ! $ nothing ! $ fjoin ! $ nothing ! $ fjoin ! $ frame ! $ feqI ! (List Val) (vunit ∷ []) (vunit ∷ []) refl $ done !
 
-  -- the call of `turns`, on the sections y and z and a shape, with the machine values v, w and o
-  module _ (y z : RefT (List ℕ)) (v w o : Val) where
-    abbrev args : Args turns.signature (κ₁, (κ, (κ, (κ₂, tt))))
-    args = (x₁, (y, (z, (shapeFor h, (x₂, tt)))))
-
-    abbrev passed : Vals turns.signature (κ₁, (κ, (κ, (κ₂, tt))))
-    passed = (slice x₁ ∷ [], (v ∷ [], (w ∷ [], (o ∷ [], (slice x₂ ∷ [], tt)))))
-
-    abbrev to-turns : Turns 𝓤 H A mem run .Ghost
-    to-turns = (((κ₁, (κ, (κ, (κ₂, tt)))), (q₁, (PosShare·left q, (PosShare·right q, (q₂, tt)))), tt, args, passed), tt)
-
-    -- what goes to `turns`
-    abbrev gone : List (Item 𝓤)
-    gone = ‵ (S.the-row .own (shapeFor h) (o ∷ [])) ∷ ‵ (ShrSlice (named 0) κ u8 .own z (w ∷ [])) ∷ tok 𝓤 H A κ q ∷ ‵ (ShrSlice (named 0) κ u8 .own y (v ∷ [])) ∷ others ∷ ‵ (MutSlice (named 1) κ₁ RT.the-row .own x₁ (slice x₁ ∷ [])) ∷ ‵ (MutSlice (named 2) κ₂ u8 .own x₂ (slice x₂ ∷ [])) ∷ []
-
-    goes-turns : ((k : ℕ) → k < length (now z) / 2 → Takes (shapeFor h) (now y) (now z) k (runTurns (shapeFor h) (now y) (now z) k u₀)) → ent 𝓤 (⋆ 𝓤 H A gone) (Turns 𝓤 H A mem run .pre to-turns)
-    goes-turns each =
-        qed W gone ∵
-        says ! each $ move ! (2 ∷ []) $ split ! $ use1 W (‵ (flft κ (PosShare·left q)) ⊛ ‵ (flft κ (PosShare·right q))) (W .lfts .lft-split κ q) $ split ! $ move ! (6 ∷ []) $ split ! $
-        -- [κ₁'s token; κ₂'s; κ's left; κ's right; true; what the shape owns (5); what z owns; what y owns; what x₁ owns; what x₂ owns]
-        move ! (3 ∷ 1 ∷ []) $ join ! $ move ! (2 ∷ 0 ∷ []) $ join ! $ move ! (1 ∷ 0 ∷ []) $ join ! $ frame ! $
-        -- [true; what the shape owns; what z owns; what y owns; what x₁ owns; what x₂ owns]
-        move ! (5 ∷ 0 ∷ []) $ fjoin ! $ move ! (1 ∷ 0 ∷ []) $ fjoin ! $ move ! (1 ∷ 0 ∷ []) $ fjoin ! $ move ! (1 ∷ 0 ∷ []) $ fjoin ! $ move ! (1 ∷ 0 ∷ []) $ fjoin ! $ done !
-
-  module _ (C : Calls 𝓤 H) (Λ : Loops 𝓤 H) (fm : FmC 𝓤 H (W .laws) C) (known-new : Triple 𝓤 (C new-def.name) (New 𝓤 H A mem run)) (known-ops : Triple 𝓤 (C ops-def.name) (Shows 𝓤 H A opsIn)) (known-list : Triple 𝓤 (C list-def.name) (Shows 𝓤 H A turnsIn))
-      (known-shape : Triple 𝓤 (C shape-def.name) (ShapeOf 𝓤 H A mem run)) (known-turns : Triple 𝓤 (C turns-def.name) (Turns 𝓤 H A mem run)) where
+  module _ (C : Calls 𝓤 H) (Λ : Loops 𝓤 H) (fm : FmC 𝓤 H (W .laws) C) (known-new : Triple 𝓤 (C new.Symbol.name) (New 𝓤 H A mem run)) (known-ops : Triple 𝓤 (C ops.Symbol.name) (Shows 𝓤 H A opsIn)) (known-list : Triple 𝓤 (C list.Symbol.name) (Shows 𝓤 H A turnsIn))
+      (known-shape : Meets 𝓤 H A shape.signature (C shape.Symbol.name) (shape.spec 𝓤 H A mem run)) (known-turns : Meets 𝓤 H A turns.signature (C turns.Symbol.name) (turns.spec 𝓤 H A mem run)) where
     walk : Is (ShrSlice (named 0) κ u8) s (slice s ∷ []) → Is HT.the-row h (HT′.lowered h ∷ []) → Room RT.the-row (length (now x₁)) → Room u8 (length (now x₂)) → Heads h (now s) × Each allTurns h (now s) u₀
         → ent 𝓤 (onEntry 𝓤 H A fn′.signature (κ, (κ₁, (κ₂, tt))) (q, (q₁, (q₂, tt))) a vals) (WpFn 𝓤 H C Λ code.function (slice s ∷ HT′.lowered h ∷ slice x₁ ∷ slice x₂ ∷ []) Post)
     walk p p′ room₁ room₂ ok =
@@ -195,8 +146,7 @@ module _ {M : Type 1} (𝓤 : URA M) (H : Heap 𝓤) (A : Atoms 𝓤) (W : Given
         -- [what the reader owns; κ's token; the others; what x₁ owns; what x₂ owns; true; _15 (6); …; _10 (16); …; _8 (20); …; _7 (22); …; _5 (26); …; _4; …; _3 (30); …; _2 (32); …; _1 (34); …]
         let te = LL.lawful (T.the-type αᵉ) (T′.the-laws αᵉ) 𝓤 H A W .typed d (u ∷ []) is .0 in
         land ! (from ! (stop !)) (init ! 26 refl te) $
-        assigns ! (addr ! (from ! (fld ! refl (hop ! (look-in ! 30 (sub ! 0 refl (whole !))) (stop !))))) (from ! (stop !)) (init ! 22 refl (tt, tt)) $
-        assigns ! (agg ! (and-then ! (load ! (from ! (stop !)) (look ! 22 refl)) (and-then ! (load ! (from ! (fld ! refl (stop !))) (look-in ! 30 (sub ! 1 refl (whole !)))) (no-more !)))) (from ! (stop !)) (init ! 20 refl (tt, (tt, (record { fits = room₁ .0 }, tt)))) $
+        passes-on ! 30 22 20 (room₁ .0) refl refl refl refl refl refl refl refl $
         assigns ! (of-opd ! (load ! (from ! (stop !)) (look ! 26 refl))) (from ! (stop !)) (init ! 16 refl te) $
         use1 W (‵ (Held κ .own d (u ∷ [])) ⊛ ‵ (Held κ .own d (u ∷ []))) (LL.copy (T.the-type (namedLft 1 0 tt (κ, tt))) (T′.the-copy (namedLft 1 0 tt (κ, tt))) 𝓤 H A W .twice d (u ∷ [])) $ split ! $ move ! (0 ∷ 2 ∷ []) $
         -- [what the reader owns; κ's token; the same again (2); the others; what x₁ owns; what x₂ owns; true; _15 (7); …]
@@ -207,34 +157,32 @@ module _ {M : Type 1} (𝓤 : URA M) (H : Heap 𝓤) (A : Atoms 𝓤) (W : Given
         shows-part ! fm turnsIn known-list κ q d u (ok .0) (and-then ! (load ! (from ! (stop !)) (look ! 12 refl)) (no-more !)) (λ b′ γ′ w is-z. let z = section turnsIn d b′ γ′ in
         -- [what z owns; κ's token; what y owns (2); the others; what x₁ owns; what x₂ owns; true; _15 (7); …; _11 (15); …; _2 (33); …]
         land ! (from ! (stop !)) (init ! 15 refl (shr-slice-lawful 𝓤 H A W erased κ u8 .typed z _ is-z .0)) $
-        owned ! HT.the-row (Is HT.the-row) (LL.makes HT.the-type HT′.the-plain 𝓤 H A) h _ p′ $ use1 W (raw (ShapeOf 𝓤 H A mem run .pre to-shape)) goes-shape $
+        nothing ! $ owned ! HT.the-row (Is HT.the-row) (LL.makes HT.the-type HT′.the-plain 𝓤 H A) h _ p′ $ fjoin ! $ nothing ! $
         -- [what `shape_of` asks; what z owns; κ's token; what y owns; the others; what x₁ owns; what x₂ owns; true; _15 (8); …; _2 (34); …]
-        calls-at ! fm (ShapeOf 𝓤 H A mem run) known-shape to-shape (and-then ! (load ! (from ! (stop !)) (look ! 34 refl)) (no-more !)) (λ o.
-        use1 W (later (some (λ (r : Shape). (‵ ftrue ⊛ ‵ (S.the-row .own r (o ∷ []))) ⊛ raw (ensured 𝓤 H A shape.ended (shape.clauses 𝓤 H A mem run) tt (h, tt) tt r)))) (id⊢ 𝓤 _) $ await ! tt $ pick ! (λ r.
-        split ! $ move ! (1 ∷ []) $ use1 W (some (λ (zs : Unit {0} × Unit {0}). ‵ (lasts shape.ended tt (h, tt) zs) ⊛ raw (fact 𝓤 (r ≡ shapeFor h)))) (id⊢ 𝓤 _) $ pick ! (λ _.
-        split ! $ move ! (1 ∷ []) $ heard ! (r ≡ shapeFor h) (λ e. drop ! $ split ! $ drop ! $ rewrite ! 0 (λ (r′ : Shape). ‵ (S.the-row .own r′ (o ∷ []))) e refl $ peeks ! S.the-row (Is S.the-row) (shows 𝓤 H A S.the-row) (shapeFor h) (o ∷ []) (λ is-sh.
+        calls ! fm shape.ended (shape.clauses 𝓤 H A mem run) known-shape ((tt, tt, tt, (h, tt), (HT′.lowered h ∷ [], tt)), tt) (id⊢ 𝓤 _) (id⊢ 𝓤 _) (id⊢ 𝓤 _) (and-then ! (load ! (from ! (stop !)) (look ! 34 refl)) (no-more !)) (λ r _. r ≡ shapeFor h) (λ r _. id⊢ 𝓤 _) (λ o r _ e.
+        drop ! $ move ! (1 ∷ []) $ drop ! $ rewrite ! 0 (λ (r′ : Shape). ‵ (S.the-row .own r′ (o ∷ []))) e refl $ peeks ! S.the-row (Is S.the-row) (shows 𝓤 H A S.the-row) (shapeFor h) (o ∷ []) (λ is-sh.
         -- [what the shape owns; what z owns; κ's token; what y owns; the others; what x₁ owns; what x₂ owns; true; _15 (8); …; _14 (10); …; _13 (12); …; _4 (30); …]
         land ! (from ! (stop !)) (init ! 12 refl (shape-typed W (shapeFor h) o is-sh)) $
-        assigns ! (addr ! (from ! (fld ! refl (hop ! (look-in ! 30 (sub ! 0 refl (whole !))) (stop !))))) (from ! (stop !)) (init ! 10 refl (tt, tt)) $
-        assigns ! (agg ! (and-then ! (load ! (from ! (stop !)) (look ! 10 refl)) (and-then ! (load ! (from ! (fld ! refl (stop !))) (look-in ! 30 (sub ! 1 refl (whole !)))) (no-more !)))) (from ! (stop !)) (init ! 8 refl (tt, (tt, (record { fits = room₂ .0 }, tt)))) $
-        group ! 7 $ use1 W (raw (Turns 𝓤 H A mem run .pre (to-turns y z v w o))) (goes-turns y z v w o (asked h (now s) u₀ (ok .1))) $
+        passes-on ! 30 10 8 (room₂ .0) refl refl refl refl refl refl refl refl $
+        -- the job's token is cut in two; the tokens, and what `turns` is passed, the last first
+        move ! (2 ∷ []) $ split ! $ use1 W (‵ (flft κ (PosShare·left q)) ⊛ ‵ (flft κ (PosShare·right q))) (W .lfts .lft-split κ q) $ split ! $ move ! (6 ∷ []) $ split ! $ move ! (3 ∷ 1 ∷ []) $ join ! $ move ! (2 ∷ 0 ∷ []) $ join ! $ move ! (1 ∷ 0 ∷ []) $ join ! $
+        -- [the tokens; true; what the shape owns; what z owns; what y owns; what x₁ owns; what x₂ owns; true; _15 (8); …]
+        move ! (6 ∷ 1 ∷ []) $ fjoin ! $ move ! (2 ∷ 0 ∷ []) $ fjoin ! $ move ! (2 ∷ 0 ∷ []) $ fjoin ! $ move ! (2 ∷ 0 ∷ []) $ fjoin ! $ move ! (2 ∷ 0 ∷ []) $ fjoin ! $ move ! (1 ∷ 0 ∷ []) $
         -- [what `turns` asks; true; _15 (2); …; _13 (6); …; _11 (10); …; _9 (14); …; _8 (16); …]
-        calls-at ! fm (Turns 𝓤 H A mem run) known-turns (to-turns y z v w o) (and-then ! (load ! (from ! (stop !)) (look ! 16 refl)) (and-then ! (load ! (from ! (stop !)) (look ! 14 refl)) (and-then ! (load ! (from ! (stop !)) (look ! 10 refl)) (and-then ! (load ! (from ! (stop !)) (look ! 6 refl)) (and-then ! (load ! (from ! (stop !)) (look ! 2 refl)) (no-more !)))))) (λ v′.
-        use1 W (later (some (λ (r : Unit {0}). (toks ⊛ ‵ (unit .own r (v′ ∷ []))) ⊛ raw (ensured 𝓤 H A turns.ended (turns.clauses 𝓤 H A mem run) (κ₁, (κ, (κ, (κ₂, tt)))) (args y z v w o) tt r)))) (id⊢ 𝓤 _) $ await ! tt $ pick ! (λ r.
-        split ! $ move ! (1 ∷ []) $ use1 W (some (λ (zs : List Row × (Unit {0} × (Unit {0} × (Unit {0} × (List ℕ × Unit {0}))))). ‵ (lasts turns.ended (κ₁, (κ, (κ, (κ₂, tt)))) (args y z v w o) zs) ⊛ raw (fact 𝓤 (both (zs .0) (zs .1 .1 .1 .1 .0) ≡ end)))) (id⊢ 𝓤 _) $ pick ! (λ zs.
-        split ! $ move ! (1 ∷ []) $ heard ! (both (zs .0) (zs .1 .1 .1 .1 .0) ≡ end) (λ e″.
+        calls ! fm turns.ended (turns.clauses 𝓤 H A mem run) known-turns (((κ₁, (κ, (κ, (κ₂, tt)))), (q₁, (PosShare·left q, (PosShare·right q, (q₂, tt)))), tt, (x₁, (y, (z, (shapeFor h, (x₂, tt))))), (slice x₁ ∷ [], (v ∷ [], (w ∷ [], (o ∷ [], (slice x₂ ∷ [], tt)))))), tt) (id⊢ 𝓤 _) (id⊢ 𝓤 _) (sure 𝓤 (asked h (now s) u₀ (ok .1)))
+        (and-then ! (load ! (from ! (stop !)) (look ! 16 refl)) (and-then ! (load ! (from ! (stop !)) (look ! 14 refl)) (and-then ! (load ! (from ! (stop !)) (look ! 10 refl)) (and-then ! (load ! (from ! (stop !)) (look ! 6 refl)) (and-then ! (load ! (from ! (stop !)) (look ! 2 refl)) (no-more !)))))) (λ _ zs. both (zs .0) (zs .1 .1 .1 .1 .0) ≡ end) (λ _ _. id⊢ 𝓤 _) (λ v′ r zs e″. move ! (2 ∷ []) $
         fsplit ! $ fsplit ! $ move ! (1 ∷ []) $ feqL ! (λ c₁. move ! (1 ∷ []) $ fsplit ! $ drop ! $ fsplit ! $ drop ! $ fsplit ! $ drop ! $ fsplit ! $ fsplit ! $ move ! (1 ∷ []) $ feqL ! (λ c₂.
-        -- [x₂'s last; true; x₁'s last; the tokens and the result (3); true; _15 (5); …]
-        move ! (3 ∷ []) $ split ! $ move ! (1 ∷ []) $ peeks ! unit (Is unit) (shows 𝓤 H A unit) r (v′ ∷ []) (λ is′.
+        -- [x₂'s last; true; x₁'s last; the tokens; the result (4); true; _15 (6); …]
+        move ! (4 ∷ 3 ∷ []) $ peeks ! unit (Is unit) (shows 𝓤 H A unit) r (v′ ∷ []) (λ is′.
         -- [nothing; the tokens; x₂'s last; true; x₁'s last (4); true; _15 (6); …; _6 (24); …; _0 (36); …]
         land ! (from ! (stop !)) (init ! 24 refl (nothing-lawful 𝓤 H A W .typed r _ is′ .0)) $
         assigns ! (of-opd ! (unit-lit !)) (from ! (stop !)) (init ! 36 refl (tt, tt)) $
         returns ! (look ! 36 refl) $ forget ! 6 refl $ forget ! 8 refl $ forget ! 10 refl $ forget ! 12 refl $ forget ! 14 refl $ forget ! 16 refl $ forget ! 18 refl $ forget ! 20 refl $ forget ! 22 refl $ forget ! 24 refl $ forget ! 26 refl $ forget ! 28 refl $ forget ! 30 refl $ forget ! 32 refl $ forget ! 34 refl $ forget ! 36 refl $
         move ! (36 ∷ 37 ∷ []) $ free1 ! $ move ! (34 ∷ 35 ∷ []) $ free1 ! $ move ! (32 ∷ 33 ∷ []) $ free1 ! $ move ! (30 ∷ 31 ∷ []) $ free1 ! $ move ! (28 ∷ 29 ∷ []) $ free1 ! $ move ! (26 ∷ 27 ∷ []) $ free1 ! $ move ! (24 ∷ 25 ∷ []) $ free1 ! $ move ! (22 ∷ 23 ∷ []) $ free1 ! $ move ! (20 ∷ 21 ∷ []) $ free1 ! $ move ! (18 ∷ 19 ∷ []) $ free1 ! $ move ! (16 ∷ 17 ∷ []) $ free1 ! $ move ! (14 ∷ 15 ∷ []) $ free1 ! $ move ! (12 ∷ 13 ∷ []) $ free1 ! $ move ! (10 ∷ 11 ∷ []) $ free1 ! $ move ! (8 ∷ 9 ∷ []) $ free1 ! $ move ! (6 ∷ 7 ∷ []) $ free1 ! $ free0 ! $
-        keep ! (1 ∷ 4 ∷ 2 ∷ []) $ by ! (exits (zs .0) (zs .1 .1 .1 .1 .0) e″ c₁ c₂))))))))))))))))))))))))))))))))
+        keep ! (1 ∷ 4 ∷ 2 ∷ []) $ by ! (exits (zs .0) (zs .1 .1 .1 .1 .0) e″ c₁ c₂))))))))))))))))))))))))))
 
 module _ {M : Type 1} (𝓤 : URA M) (H : Heap 𝓤) (A : Atoms 𝓤) (W : Given 𝓤 H A) (mem : Memory → SProp 𝓤) (run : Routine → Fun 𝓤) where
-  walks : (C : Calls 𝓤 H) (Λ : Loops 𝓤 H) → FmC 𝓤 H (W .laws) C → Triple 𝓤 (C new-def.name) (New 𝓤 H A mem run) → Triple 𝓤 (C ops-def.name) (Shows 𝓤 H A opsIn) → Triple 𝓤 (C list-def.name) (Shows 𝓤 H A turnsIn) → Triple 𝓤 (C shape-def.name) (ShapeOf 𝓤 H A mem run) → Triple 𝓤 (C turns-def.name) (Turns 𝓤 H A mem run)
+  walks : (C : Calls 𝓤 H) (Λ : Loops 𝓤 H) → FmC 𝓤 H (W .laws) C → Triple 𝓤 (C new.Symbol.name) (New 𝓤 H A mem run) → Triple 𝓤 (C ops.Symbol.name) (Shows 𝓤 H A opsIn) → Triple 𝓤 (C list.Symbol.name) (Shows 𝓤 H A turnsIn) → Meets 𝓤 H A shape.signature (C shape.Symbol.name) (shape.spec 𝓤 H A mem run) → Meets 𝓤 H A turns.signature (C turns.Symbol.name) (turns.spec 𝓤 H A mem run)
       → Walks 𝓤 H A fn′.ended stayed (WpFn 𝓤 H C Λ code.function) (fn′.clauses 𝓤 H A mem run)
   walks C Λ fm k₁ k₂ k₃ k₄ k₅ = walked 𝓤 H A fn′.ended stayed (fn′.clauses 𝓤 H A mem run) (WpFn 𝓤 H C Λ code.function)
       (λ κs. (slice-vals, (LL.vals HT.the-type HT′.the-laws, (slice-vals, (slice-vals, tt)))))
@@ -243,7 +191,7 @@ module _ {M : Type 1} (𝓤 : URA M) (H : Heap 𝓤) (A : Atoms 𝓤) (W : Given
       (walk 𝓤 H A W mem run (κs .0) (κs .1 .0) (κs .1 .1 .0) (qs .0) (qs .1 .0) (qs .1 .1 .0) (a .0) (a .1 .0) (a .1 .1 .0) (a .1 .1 .1 .0) C Λ fm k₁ k₂ k₃ k₄ k₅ (are .0) (are .1 .0) (are .1 .1 .0 .0 .1) (are .1 .1 .1 .0 .0 .1)))
 
 meets : {M : Type 1} (𝓤 : URA M) (H : Heap 𝓤) (A : Atoms 𝓤) (W : Given 𝓤 H A) (mem : Memory → SProp 𝓤) (run : Routine → Fun 𝓤) (𝓣 : Tables 𝓤 H)
-    → Triple 𝓤 (𝓣 .C new-def.name) (New 𝓤 H A mem run) → Triple 𝓤 (𝓣 .C ops-def.name) (Shows 𝓤 H A opsIn) → Triple 𝓤 (𝓣 .C list-def.name) (Shows 𝓤 H A turnsIn) → Triple 𝓤 (𝓣 .C shape-def.name) (ShapeOf 𝓤 H A mem run) → Triple 𝓤 (𝓣 .C turns-def.name) (Turns 𝓤 H A mem run)
+    → Triple 𝓤 (𝓣 .C new.Symbol.name) (New 𝓤 H A mem run) → Triple 𝓤 (𝓣 .C ops.Symbol.name) (Shows 𝓤 H A opsIn) → Triple 𝓤 (𝓣 .C list.Symbol.name) (Shows 𝓤 H A turnsIn) → Meets 𝓤 H A shape.signature (𝓣 .C shape.Symbol.name) (shape.spec 𝓤 H A mem run) → Meets 𝓤 H A turns.signature (𝓣 .C turns.Symbol.name) (turns.spec 𝓤 H A mem run)
     → Meets 𝓤 H A fn′.signature (WpFn 𝓤 H (𝓣 .C) (𝓣 .Λ) code.function) (fn′.spec 𝓤 H A mem run)
 meets 𝓤 H A W mem run 𝓣 k₁ k₂ k₃ k₄ k₅ =
     walk-meets 𝓤 H A fn′.ended stayed W (goes-dropped 𝓤 H A W 3 (shrSliceOf (0 ∷ []) tt (plain (λ _. u8))) yes (λ κs x f. refl), (goes-dropped 𝓤 H A W 3 (plain (λ _. HT.the-row)) yes (λ κs x f. refl), (goes-gave-slice 𝓤 H A W 3 1 tt (plain (λ _. RT.the-row)), (goes-gave-slice 𝓤 H A W 3 2 tt (plain (λ _. u8)), tt)))) (fn′.clauses 𝓤 H A mem run)
@@ -255,8 +203,8 @@ take-turns-spec 𝓤 H 𝓜 𝓖 𝓡 =
     entered 𝓤 H (tripleOf 𝓤 H (𝓖 .A) fn′.signature (fn′.spec 𝓤 H (𝓖 .A) (𝓜 .mem) (𝓡 .run)))
     (tables 𝓤 H 𝓜 𝓡 code.env .C) (tables 𝓤 H 𝓜 𝓡 code.env .Λ) #take-turns code.function (code.unfolded 𝓤 H 𝓜 𝓡)
     (meets 𝓤 H (𝓖 .A) (givenOf 𝓤 H 𝓜 𝓖) (𝓜 .mem) (𝓡 .run) (tablesOf 𝓤 H 𝓜 (tables 𝓤 H 𝓜 𝓡 code.env))
-    (cited 𝓤 H (New 𝓤 H (𝓖 .A) (𝓜 .mem) (𝓡 .run)) 𝓜 𝓡 code.env new-def.name new-def.routine code.calls-reader·Reader·new (new-thm.met 𝓤 H 𝓜 𝓖 𝓡))
-    (cited 𝓤 H (Shows 𝓤 H (𝓖 .A) opsIn) 𝓜 𝓡 code.env ops-def.name ops-def.routine code.calls-reader·Reader·operations (ops-thm.met 𝓤 H 𝓜 𝓖 𝓡))
-    (cited 𝓤 H (Shows 𝓤 H (𝓖 .A) turnsIn) 𝓜 𝓡 code.env list-def.name list-def.routine code.calls-reader·Reader·turn-list (list-thm.met 𝓤 H 𝓜 𝓖 𝓡))
-    (cited 𝓤 H (ShapeOf 𝓤 H (𝓖 .A) (𝓜 .mem) (𝓡 .run)) 𝓜 𝓡 code.env shape-def.name shape-def.routine code.calls-run·shape-of (shape-thm.met 𝓤 H 𝓜 𝓖 𝓡))
-    (cited 𝓤 H (Turns 𝓤 H (𝓖 .A) (𝓜 .mem) (𝓡 .run)) 𝓜 𝓡 code.env turns-def.name turns-def.routine code.calls-table·turns (turns-thm.met 𝓤 H 𝓜 𝓖 𝓡)))
+    (cited 𝓤 H (New 𝓤 H (𝓖 .A) (𝓜 .mem) (𝓡 .run)) 𝓜 𝓡 code.env new.Symbol.name new.Symbol.routine code.calls-reader·Reader·new (new.Met.met 𝓤 H 𝓜 𝓖 𝓡))
+    (cited 𝓤 H (Shows 𝓤 H (𝓖 .A) opsIn) 𝓜 𝓡 code.env ops.Symbol.name ops.Symbol.routine code.calls-reader·Reader·operations (ops.Met.met 𝓤 H 𝓜 𝓖 𝓡))
+    (cited 𝓤 H (Shows 𝓤 H (𝓖 .A) turnsIn) 𝓜 𝓡 code.env list.Symbol.name list.Symbol.routine code.calls-reader·Reader·turn-list (list.Met.met 𝓤 H 𝓜 𝓖 𝓡))
+    (cited 𝓤 H (tripleOf 𝓤 H (𝓖 .A) shape.signature (shape.spec 𝓤 H (𝓖 .A) (𝓜 .mem) (𝓡 .run))) 𝓜 𝓡 code.env shape.Symbol.name shape.Symbol.routine code.calls-run·shape-of (shape.Met.met 𝓤 H 𝓜 𝓖 𝓡))
+    (cited 𝓤 H (tripleOf 𝓤 H (𝓖 .A) turns.signature (turns.spec 𝓤 H (𝓖 .A) (𝓜 .mem) (𝓡 .run))) 𝓜 𝓡 code.env turns.Symbol.name turns.Symbol.routine code.calls-table·turns (turns.Met.met 𝓤 H 𝓜 𝓖 𝓡)))
