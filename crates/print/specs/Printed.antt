@@ -4,6 +4,7 @@ use mathlib.Core.Path.{_≡_}
 use mathlib.Core.List.{List}
 use lib.ListN.{length, take}
 use Rattle.spec.specs.Check.{Lent, firstFault}
+use Rattle.spec.specs.Outcome.{bufferAfter, workAfter}
 use Rattle.spec.specs.Report.{printedBy}
 use Rattle.print.specs.declared.Printed.{Printed}
 use Rattle.print.specs.declared.Printed.the-variants.{Text, NoRoom}
@@ -17,3 +18,8 @@ textSize = 85089
 abbrev pub Prints : List ℕ → Lent → List ℕ → List ℕ → Printed → Type 0
 Prints b l s t (Text n) = (textSize ≤ length s) × (n ≤ length t) × (take n t ≡ printedBy (firstFault l b) b)
 Prints b l s t NoRoom = (length s < textSize) × (t ≡ s)
+
+-- the lent result buffer before (s) and after (t), and the working memory (w, u): as the run leaves them, or, where nothing is run, as they were
+abbrev pub Leaves : List ℕ → Lent → List ℕ → List ℕ → List ℕ → List ℕ → Printed → Type 0
+Leaves b l s t w u (Text n) = (t ≡ bufferAfter l b s) × (u ≡ workAfter l b w)
+Leaves b l s t w u NoRoom = (t ≡ s) × (u ≡ w)
