@@ -9,7 +9,7 @@ use lib.Seq.{length-take-le}
 use Rattle.spec.specs.Basics.{if}
 use Rattle.spec.specs.Bytes.{byte, word, long}
 use Rattle.spec.specs.File.{entryAt}
-use Rattle.spec.specs.Job.{noOp, kindOf, headerSize, pageSize, opSize, tableOffset, opsOffset, turnsOffset, total, entryPlace, pagePlace, opPlace, turnPlace}
+use Rattle.spec.specs.Job.{noOp, kindOf, pageSize, opSize, tableOffset, opsOffset, turnsOffset, total, entryPlace, pagePlace, opPlace, turnPlace}
 use Rattle.spec.specs.Decode.{headerOf, numberOf, opOf, pageParts, opParts, turnParts, jobOf}
 use Rattle.laws.specs.Codec.Parts.{length-parts}
 use Rattle.laws.specs.Codec.Places as places
@@ -61,10 +61,6 @@ module _ {h : Header} {b : List ℕ} (e : Heads h b) where
   turns-count = rw (← e .counts) (length-parts (h .turns) 2 (drop (turnsOffset (countsOf h)) b))
 
   -- where each stands
-  pub header-room : headerSize ≤ length b
-  unfolding total turnsOffset opsOffset tableOffset
-  header-room = let s = e .size in omega arith
-
   pub entry-there : (j : ℕ) → j < 2 ^ h .depth → Number b (32 + 2 * j) (getD (jobOf b .file .directory) j 0)
   unfolding jobOf entryAt entryPlace total turnsOffset opsOffset tableOffset
   entry-there j l = let s = e .size in record { room = omega arith; is = sym (places.entry-there b j (rw (← e .counts) l)) }

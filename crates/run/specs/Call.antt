@@ -18,7 +18,7 @@ use Rattle.turn.specs.Rows.{rowImage, blankRow}
 abbrev pub lent : List ℕ → List Row → List ℕ → Lent
 lent s x w = record { result = length s; rows = length x; work = length w }
 
--- the bytes b are a job that meets no row of the refusal table, whatever is lent: s, x and w
+-- the bytes b are a job that meets no row of the refusal table, with s, x and w lent
 pub record Accepted (b s : List ℕ) (x : List Row) (w : List ℕ) : Type 0 where
   pub bytes : AreBytes b
   pub faultless : firstFault (lent s x w) b ≡ none

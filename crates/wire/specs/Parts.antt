@@ -10,7 +10,7 @@ use Rattle.spec.specs.Bytes.{byte}
 use Rattle.laws.specs.Codec.Parts.{byte-in}
 use Rattle.wire.specs.Over.{over}
 use Rattle.wire.specs.OverLaws.{length-over, over-parts}
-use Rattle.wire.specs.Reads.{Apart, byte-over, byte-over-other, near}
+use Rattle.wire.specs.Reads.{byte-over}
 
 pub length-part : (s : List ℕ) (a n : ℕ) → a + n ≤ length s → length (take n (drop a s)) ≡ n
 length-part s a n h = length-take-le n (drop a s) (omega (arith, length-drop a s))
@@ -29,16 +29,6 @@ pub part-over : (s x : List ℕ) (a n : ℕ) → length x ≡ n → a + n ≤ le
 part-over s x a n e h =
     same-bytes (take n (drop a (over s a x))) x n (length-part (over s a x) a n (rw (length-over s a x) h)) e
     (λ j l. byte-in n a (over s a x) j l ∙ byte-over x s a j (omega arith) (omega arith))
-
--- another part
-pub part-over-other
-    : (s x : List ℕ) (at k n : ℕ)
-    → k + n ≤ length s
-    → Apart k n at (length x)
-    → take n (drop k (over s at x)) ≡ take n (drop k s)
-part-over-other s x at k n f h =
-    same-bytes (take n (drop k (over s at x))) (take n (drop k s)) n (length-part (over s at x) k n (rw (length-over s at x) f)) (length-part s k n f)
-    (λ j l. byte-in n k (over s at x) j l ∙ byte-over-other x s at (k + j) (near k at (length x) n j h l) ∙ sym (byte-in n k s j l))
 
 -- a part of a part
 pub part-part : (s : List ℕ) (a m j n : ℕ) → j + n ≤ m → a + m ≤ length s → take n (drop j (take m (drop a s))) ≡ take n (drop (a + j) s)

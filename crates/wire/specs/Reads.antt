@@ -2,14 +2,14 @@
 use mathlib.Core.Path.{_≡_, refl, _∙_}
 use mathlib.Core.Logic.{_⊎_, inl, inr}
 use mathlib.Core.List.{List, [], _∷_}
-use Prim.Native.Nat.{ℕ, zero, suc, _+_, _^_, _≤_, _<_}
+use Prim.Native.Nat.{ℕ, zero, suc, _+_, _≤_, _<_}
 use native.Mathlib.Nat.{add-assoc}
 use native.Mathlib.Numerals.{add-one, add-two, add-three}
 use native.Mathlib.Omega.{arith}
 use lib.ListN.{length, set, length-set}
 use lib.Seq.{getD-set-same, getD-set-other, set-getD}
 use Rattle.spec.specs.Bytes.{byte, word, long, two, four}
-use Rattle.laws.specs.Codec.Numbers.{word-two, long-four, word-small, two-read, four-read}
+use Rattle.laws.specs.Codec.Numbers.{word-two, word-small, two-read, four-read}
 use Rattle.wire.specs.Over.{over}
 
 -- place k lies before n bytes at `at`, or behind them
@@ -78,12 +78,6 @@ unfolding two
 word-put s at v f h =
     let e : at + 0 ≡ at = omega arith in
     rw e at (word-over (two v) s at 0 (omega arith) f) ∙ word-two v [] h
-
-pub long-put : (s : List ℕ) (at v : ℕ) → at + 4 ≤ length s → v < 2 ^ 32 → long (over s at (four v)) at ≡ v
-unfolding four two
-long-put s at v f h =
-    let e : at + 0 ≡ at = omega arith in
-    rw e at (long-over (four v) s at 0 (omega arith) f) ∙ long-four v [] h
 
 -- ---- bytes written where they stand change nothing
 

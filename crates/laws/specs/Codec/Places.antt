@@ -1,18 +1,18 @@
 -- Where each part of a section stands in the bytes, for code that reads at places: entry j at `entryPlace j`, page x at `pagePlace h x`,
 -- operation i at `opPlace h i`, turn t at `turnPlace h t`, record r of the page at p at `recordPlace p r`.
-use Prim.Native.Nat.{ℕ, suc, _+_, _-_, _*_, _^_, _<_, _≤_}
+use Prim.Native.Nat.{ℕ, suc, _+_, _-_, _*_, _^_, _<_}
 use mathlib.Core.Path.{_≡_, ap, _∙_}
 use mathlib.Core.List.{List, []}
 use native.Mathlib.Omega.{arith}
 use native.Mathlib.Nat.{add-zero}
 use lib.ListN.{getD, take, drop, List·getD-map}
 use Rattle.spec.specs.declared.Rec.{Rec}
-use Rattle.spec.specs.Bytes.{byte, word, long, parts}
+use Rattle.spec.specs.Bytes.{byte, word, parts}
 use Rattle.spec.specs.File.{entryAt}
-use Rattle.spec.specs.Job.{Header, entrySize, recordSize, pageSize, opSize, turnSize, directoryOffset, tableOffset, opsOffset, turnsOffset, entryPlace, pagePlace, recordPlace, opPlace, turnPlace}
+use Rattle.spec.specs.Job.{Header, entrySize, recordSize, pageSize, opSize, turnSize, directoryOffset, tableOffset, opsOffset, turnsOffset, entryPlace, pagePlace, opPlace, turnPlace}
 use Rattle.spec.specs.Decode.{headerOf, entryParts, pageParts, opParts, turnParts, numberOf, recordOf, pageOf, fileOf, jobOf}
 use Rattle.laws.specs.Codec.Tools.{getD-map}
-use Rattle.laws.specs.Codec.Parts.{length-parts, part-place, byte-in, word-in, long-in}
+use Rattle.laws.specs.Codec.Parts.{length-parts, part-place, word-in}
 
 module _ (h : Header) (b : List ℕ) where
   pub entry-part : (j : ℕ) → j < 2 ^ h .g → getD (entryParts h b) j [] ≡ take entrySize (drop (entryPlace j) b)
@@ -51,25 +51,3 @@ pub record-part : (s : List ℕ) (i : ℕ) (d : Rec) → i < byte s 1 → getD (
 unfolding pageOf
 record-part s i d l =
     getD-map recordOf (parts (byte s 1) 8 (drop 4 s)) i [] d (rw length-parts l) ∙ ap recordOf (part-place (byte s 1) 8 4 s i l)
-
--- record r of the page of `size` bytes at p
-pub record-there
-    : (size p : ℕ) (b : List ℕ) (r : ℕ) (d : Rec)
-    → r < byte b (p + 1)
-    → 4 + recordSize * suc r ≤ size
-    → getD (pageOf (take size (drop p b)) .records) r d ≡ record { call = long b (recordPlace p r); charge = long b (recordPlace p r + 4) }
-unfolding recordOf recordPlace
-record-there size p b r d counted inside =
-    record-part page r d within
-    ∙ (λ i. record { call = (field 0 (omega arith) ∙ ap (long b) (add-zero _)) i; charge = field 4 (omega arith) i })
-  where
-    page : List ℕ
-    page = take size (drop p b)
-
-    within : r < byte page 1
-    within = rw (byte-in size p b 1 (omega arith)) counted
-
-    field : (k : ℕ) → k + 4 ≤ 8 → long (take 8 (drop (4 + 8 * r) page)) k ≡ long b (p + 4 + 8 * r + k)
-    field k l =
-        let e : p + (4 + 8 * r + k) ≡ p + 4 + 8 * r + k = omega arith in
-        long-in 8 (4 + 8 * r) page k l ∙ long-in size p b (4 + 8 * r + k) (omega arith) ∙ ap (long b) e
