@@ -1,27 +1,39 @@
 -- A text that was printed is the one that is meant, and lies within its buffer; and so does the input that was read.
-use mathlib.Core.Path.{_≡_, sym, _∙_}
+use mathlib.Core.Path.{_≡_, sym, ap, _∙_}
 use mathlib.Core.List.{List}
 use Prim.Native.Nat.{ℕ, _≤_}
 use native.Mathlib.Omega.{arith}
-use lib.ListN.{length}
-use lib.Seq.{length-take-le}
+use lib.ListN.{length, take, drop, length-append}
+use lib.Seq.{length-take-le, take-at}
 use Rattle.spec.specs.Check.{Lent, workSize}
+use Rattle.spec.specs.Report.{printed}
+use Rattle.laws.specs.Codec.Longest.{front-decides}
 use Rattle.print.specs.declared.Printed.{Printed}
 use Rattle.print.specs.declared.Printed.the-variants.{Text, NoRoom}
-use Rattle.print.specs.Printed.{textSize, Prints}
+use Rattle.print.specs.Printed.{textSize, Stands, Prints}
 use Rattle.print.specs.Enough.{mostResult, enough-printed}
 use Rattle.chargelog.specs.declared.Input.{Input}
 use Rattle.chargelog.specs.declared.Input.the-variants.{Bytes}
 use Rattle.chargelog.specs.Input.{Within, Says}
 
+-- a text that stands in a buffer
+shown : {x s t : List ℕ} {n : ℕ} → Stands x s t n → take n t ≡ x
+shown {x} {s} {t} {n} w = ap (take n) (w .bytes) ∙ take-at x (drop n s) n (sym (w .count))
+
+count : {x s t : List ℕ} {n : ℕ} → Stands x s t n → n ≤ length t
+count {x} {s} {t} {n} w = omega (arith, w .count, ap length (w .bytes) ∙ length-append x (drop n s))
+
 module _ (b : List ℕ) (l : Lent) (s t : List ℕ) (r : Printed) (p : Prints b l s t r) where
   pub text-says : (n : ℕ) → r ≡ Text n → mostResult ≤ l .result → 256 ≤ l .rows → workSize ≤ l .work → Says b t n
   text-says n e result rows work =
       let q = rw e at p in
+      let text : take n t ≡ printed b = shown (q .1) ∙ enough-printed b l result rows work in
+      let within = count (q .1) in
       record {
-        within = q .1;
-        counts = sym (length-take-le n t (q .1));
-        text = q .2 ∙ enough-printed b l result rows work;
+        within = within;
+        counts = sym (length-take-le n t within);
+        text = text;
+        input = λ whole read. text ∙ ap printed read ∙ front-decides whole;
       }
 
   pub no-room : r ≡ NoRoom → textSize ≤ length s → ⊥

@@ -8,6 +8,7 @@ pub mod Pieces
 pub mod Places
 -- what each row of the refusal table says where it does not hold
 pub mod Rows
+pub mod Longest
 pub mod InUse
 pub mod Owner
 pub mod Records

@@ -7,6 +7,7 @@ use native.Mathlib.Omega.{arith}
 use native.Mathlib.Decide.{decLe}
 use lib.ListN.{length, getD, List·getD-eq-default}
 use Rattle.spec.specs.declared.Op.{Op}
+use Rattle.spec.specs.Basics.{Each, end}
 use Rattle.spec.specs.Bytes.{AreBytes}
 use Rattle.spec.specs.File.{File, pageAt}
 use Rattle.spec.specs.Job.{Job, noOp}
@@ -16,7 +17,7 @@ use Rattle.spec.specs.Turn.{recOf}
 use Rattle.spec.specs.Run.{rowOf, run}
 use Rattle.spec.specs.Result.{result}
 use Rattle.spec.specs.Check.{jobFault}
-use Rattle.spec.specs.Proper.{Each, end, FileOk}
+use Rattle.spec.specs.Proper.{FileOk}
 use Rattle.spec.specs.Claims.{stateAt}
 use Rattle.laws.specs.Tools.{each-at}
 use Rattle.laws.specs.Codec.Back.{RecFits}

@@ -17,7 +17,7 @@ use Rattle.spec.specs.declared.Kind.{Kind}
 use Rattle.spec.specs.declared.Kind.the-variants.{Search, Insert, Delete}
 use Rattle.spec.specs.declared.Stage.{Stage}
 use Rattle.spec.specs.declared.Stage.the-variants.{NotBegun, ReadPage, Reread, Lock, Held, Split, Done}
-use Rattle.spec.specs.Basics.{isSome, allOf}
+use Rattle.spec.specs.Basics.{isSome, allOf, Has, here, there}
 use Rattle.spec.specs.Code.{notYet, noDepth, noPage}
 use Rattle.spec.specs.File.{findIn, contents}
 use Rattle.spec.specs.Job.{Job, noOp}
@@ -26,10 +26,10 @@ use Rattle.spec.specs.Run.{stageOf, run}
 use Rattle.spec.specs.Result.{Line}
 use Rattle.spec.specs.PlainList.{Reply, replyOf}
 use Rattle.spec.specs.Proper.{NoneTwice, empty, more}
-use Rattle.spec.specs.Claims.{Has, here, there, stateAt, times, log, lineAt, opAt, answerOf, fed, FirstTurn, Ended, Waits, Before, Explained}
+use Rattle.spec.specs.Claims.{stateAt, times, log, lineAt, opAt, answerOf, fed, FirstTurn, Ended, Waits, Before, Explained}
 use Rattle.laws.specs.Tools.{and-left, and-right}
 use Rattle.laws.specs.Weighed.{every, some-of, sameRec, sameReply, same, member, noneTwice, isDone, isSearch, waits, ended, first, precedes}
-use Rattle.laws.specs.Weighed.{answers, refused, once, noOther, sorted, held, listOnce, fileOnce, order, searches, progress, finished}
+use Rattle.laws.specs.Weighed.{answers, refused, once, noOther, sorted, held, listOnce, fileOnce, order, searches, progressAt, progress, finished}
 
 -- tests joined: when they come out true
 is-not : {a : Bool} → (a ≡ true → ⊥) → not a ≡ true
@@ -91,7 +91,7 @@ sameReply-true a = is-and (eq-eqb (a .code) _ refl) (eq-eqb (a .charge) _ refl)
 member-true : {r : Rec} {rs : List Rec} → Has r rs → member r rs ≡ true
 unfolding member
 member-true {r} here = rw (sameRec-true r)
-member-true {r} (there {a} h) = is-or {a = sameRec a r} (λ e. member-true h)
+member-true {r} (there {y} h) = is-or {a = sameRec y r} (λ e. member-true h)
 
 all-true : (f : Rec → Bool) (rs : List Rec) → ((r : Rec) → Has r rs → f r ≡ true) → allOf f rs ≡ true
 unfolding allOf
@@ -243,18 +243,21 @@ searches-true j h =
 
 pub progress-true
     : (j : Job)
-    → ((i : ℕ)
+    → ((t i : ℕ)
+    → t ≤ length (j .turns)
     → i < length (j .ops)
-    → (stageOf (run j) i ≡ Done → ⊥)
-    → (k : ℕ) × (k < length (j .ops)) × (stageOf (run j) k ≡ Done → ⊥) × (Waits (run j) k → ⊥))
+    → (stageOf (stateAt j t) i ≡ Done → ⊥)
+    → (k : ℕ) × (k < length (j .ops)) × (stageOf (stateAt j t) k ≡ Done → ⊥) × (Waits (stateAt j t) k → ⊥))
     → progress j ≡ true
-unfolding progress
+unfolding progress progressAt
 progress-true j h =
-    every-or _ (λ i. isDone (stageOf (run j) i)) _
+    every-true _ _
+    (λ t m.
+    every-or _ (λ i. isDone (stageOf (stateAt j t) i)) _
     (λ i l d.
-    let k = h i l (undone d) in
-    some-true _ (λ i. not (isDone (stageOf (run j) i)) && not (waits (run j) i)) (k .0) (k .1)
-    (is-and (is-not (λ x. k .2 (says-done _ x))) (is-not (λ x. k .3 (says-waits _ _ x)))))
+    let k = h t i (omega arith) l (undone d) in
+    some-true _ (λ i. not (isDone (stageOf (stateAt j t) i)) && not (waits (stateAt j t) i)) (k .0) (k .1)
+    (is-and (is-not (λ x. k .2 (says-done _ x))) (is-not (λ x. k .3 (says-waits _ _ x))))))
 
 pub finished-true
     : (j : Job)

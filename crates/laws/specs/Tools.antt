@@ -5,8 +5,7 @@ use mathlib.Core.List.{List, [], _∷_, _++_}
 use mathlib.Core.Bool.{Bool, true, false, _&&_, true≢false, false≢true, Bool·beq}
 use native.Mathlib.Omega.{arith}
 use lib.ListN.{length, getD, set, replicate}
-use Rattle.spec.specs.Basics.{if, allOf, filter}
-use Rattle.spec.specs.Proper.{end, next, Each}
+use Rattle.spec.specs.Basics.{if, allOf, filter, Each, end, next}
 
 -- by cases on a test, with what the test says
 pub if-case : {A : Type 0} (P : A → Type 0) {b : Bool} {x y : A} → (b ≡ true → P x) → (b ≡ false → P y) → P (if b x y)
@@ -59,7 +58,7 @@ module _ {A : Type 0} where
 
   pub each-imp : {P Q : A → Type 0} {xs : List A} → ((x : A) → P x → Q x) → Each P xs → Each Q xs
   each-imp f end = end
-  each-imp f (next {q} h t) = next (f q h) (each-imp f t)
+  each-imp f (next {x} h t) = next (f x h) (each-imp f t)
 
   pub each-append : {P : A → Type 0} (xs ys : List A) → Each P xs → Each P ys → Each P (xs ++ ys)
   each-append [] ys h k = k

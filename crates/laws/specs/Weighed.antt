@@ -1,7 +1,7 @@
 -- The claim weighed: each field of `Explained` as a test that computes, and small jobs on which every test passes.
 -- For each field there is a changed definition under which its test fails on one of these jobs (tests/edits), so no field is there for nothing.
 -- That a test is true where its field holds is proved in Refutes: a test that fails refutes the claim.
-use Prim.Native.Nat.{ℕ, zero, suc, _+_}
+use Prim.Native.Nat.{ℕ, zero, suc}
 use mathlib.Core.Path.{_≡_, refl}
 use mathlib.Core.List.{List, [], _∷_, _++_, map}
 use mathlib.Core.Bool.{Bool, true, false, not, _&&_, _||_}
@@ -131,10 +131,11 @@ searches j =
     every (suc (length (j .turns)))
     (λ t. every (length (j .ops)) (λ i. not (isSearch (getD (j .ops) i noOp .kind) && waits (stateAt j t) i)))
 
+unfoldable pub progressAt : State → ℕ → Bool
+progressAt s m = every m (λ i. isDone (stageOf s i)) || some-of m (λ k. not (isDone (stageOf s k)) && not (waits s k))
+
 unfoldable pub progress : Job → Bool
-progress j =
-    every (length (j .ops)) (λ i. isDone (stageOf (run j) i))
-    || some-of (length (j .ops)) (λ k. not (isDone (stageOf (run j) k)) && not (waits (run j) k))
+progress j = every (suc (length (j .turns))) (λ t. progressAt (stateAt j t) (length (j .ops)))
 
 unfoldable pub finished : Job → Bool
 finished j = every (length (j .ops)) (λ i. not (isDone (stageOf (run j) i)) || not (eqb (codeOf j i) notYet))
@@ -257,7 +258,7 @@ unfolding opened stateAt times log answerOf fed every sameRec sameReply same mem
 searches-passes = refl
 
 progress-passes : Passes progress
-unfolding opened stateAt times log answerOf fed every sameRec sameReply same member noneTwice isDone isSearch waits ended first precedes progress
+unfolding opened stateAt times log answerOf fed every sameRec sameReply same member noneTwice isDone isSearch waits ended first precedes progressAt progress
 progress-passes = refl
 
 finished-passes : Passes finished

@@ -2,8 +2,7 @@
 use mathlib.Core.Path.{_≡_, refl}
 use mathlib.Core.Bool.{Bool, true, false}
 use mathlib.Core.List.{List, [], _∷_, _++_}
-use Rattle.spec.specs.Basics.{filter}
-use Rattle.spec.specs.Proper.{Each}
+use Rattle.spec.specs.Basics.{filter, Each}
 use Rattle.laws.specs.Tools.{if-true, if-false, first, rest}
 
 module _ {A : Type 0} where

@@ -9,10 +9,11 @@ use lib.Dec.{eqb}
 use lib.ListN.{length, getD}
 use borrow.Author.Tests.{eqb-true, eq-eqb, ne-eqb}
 use Rattle.spec.specs.declared.Rec.{Rec}
+use Rattle.spec.specs.Basics.{Each}
 use Rattle.spec.specs.Key.{index, bit}
 use Rattle.spec.specs.File.{Page, zeroPage, hasIndex, ofIndex}
 use Rattle.spec.specs.Split.{hasBit, withBit, digit, half, added, Grown, joined, grow, leastShared, splitCount}
-use Rattle.spec.specs.Proper.{Each, In}
+use Rattle.spec.specs.Proper.{In}
 use Rattle.laws.specs.Tools.{if-case, if-true, if-false, each-imp, filter-few}
 use Rattle.laws.specs.Turns.Prefix.{to-half}
 use Rattle.laws.specs.Turns.Shared.{least-most, least-all, next-bit, bit-next}

@@ -4,9 +4,10 @@ use mathlib.Core.Bool.{true}
 use Prim.Native.Nat.{ℕ, _+_, _≤_, _<_}
 use lib.ListN.{length}
 use Rattle.spec.specs.declared.Rec.{Rec}
+use Rattle.spec.specs.Basics.{Each}
 use Rattle.spec.specs.File.{Page, ofIndex}
 use Rattle.spec.specs.Split.{leastShared}
-use Rattle.spec.specs.Proper.{Each, In}
+use Rattle.spec.specs.Proper.{In}
 use Rattle.pieces.specs.declared.Piece.{Piece}
 
 -- the page is full, its calls and the new one begin with its pattern, and not all of its calls share 32 bits with the new one

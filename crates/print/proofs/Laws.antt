@@ -16,20 +16,23 @@ use Rattle.spec.specs.Outcome.{resultBytes, outcomeBy, outcome, afterRun, buffe
 use Rattle.spec.specs.Report.{refusedLine, printedBy, printed}
 use Rattle.laws.specs.Codec.Tools.{orElse-none}
 use Rattle.wire.specs.Wrote.{Wrote}
-use Rattle.wire.specs.WroteLaws.{kept}
+use Rattle.wire.specs.OverLaws.{over-parts}
 use Rattle.report.specs.Read.{reportOf}
 use Rattle.report.specs.Sound.{Sound}
 use Rattle.report.specs.Fits.{ResultFits}
 use Rattle.report.specs.Right.{report-sound}
-use Rattle.report.specs.Printed.{front, report-printed}
+use Rattle.report.specs.Printed.{report-printed}
 use Rattle.turn.specs.declared.Row.{Row}
 use Rattle.turn.specs.Rows.{blankRow}
 use Rattle.run.specs.Call.{lent, Settled}
 use Rattle.print.specs.Table.{fullTable}
+use Rattle.print.specs.Printed.{Stands}
 use Rattle.print.specs.Fits.{accepted-result-fits}
 
-pub within : {k n : ℕ} {s x t : List ℕ} → Wrote k s 0 x t n → k ≤ length s → n ≤ length t
-within w h = omega (arith, w .near, kept w)
+-- a text written at the front of a buffer with room for it
+stands : {k n : ℕ} {s x t : List ℕ} → k ≤ length s → Wrote k s 0 x t n → Stands x s t n
+stands {s = s} {x = x} room w =
+    record { count = omega (arith, w .stop); bytes = rw (w .stop) (w .bytes ∙ over-parts x s 0 (omega (arith, w .stop, w .near))) }
 
 -- the cases of an outcome
 ran-by : (o : Option Fault) (b : List ℕ) (n : ℕ) → Ran n ≡ outcomeBy o b → (o ≡ none) × (n ≡ length (resultBytes b))
@@ -92,11 +95,12 @@ module _ {b s t : List ℕ} {x y : List Row} {w u : List ℕ} {r : Outcome} (cal
           : {k m : ℕ} {o p : List ℕ}
           → Wrote k o 0 (reportOf b (take n t)) p m
           → k ≤ length o
-          → take m p ≡ printedBy (firstFault (lent s x w) b) b
+          → Stands (printedBy (firstFault (lent s x w) b) b) o p m
       unfolding printed
-      ran-printed wrote room =
-          report-printed n b (take n t) accepted fits ran-whole room wrote
-          ∙ ap (λ f. printedBy f b) (accepted ∙ sym (cases .0))
+      ran-printed {m = m} {o = o} {p = p} wrote room =
+          subst (λ (text : List ℕ). Stands text o p m)
+          (report-printed n b (take n t) accepted fits ran-whole ∙ ap (λ f. printedBy f b) (accepted ∙ sym (cases .0)))
+          (stands room wrote)
 
   -- A JOB THAT WAS REFUSED
   module _ {number place : ℕ} (refused : r ≡ Refused number place) where
@@ -108,6 +112,7 @@ module _ {b s t : List ℕ} {x y : List Row} {w u : List ℕ} {r : Outcome} (cal
         : {k m : ℕ} {o p : List ℕ}
         → Wrote k o 0 (refusedLine (record { number = number; place = place })) p m
         → k ≤ length o
-        → take m p ≡ printedBy (firstFault (lent s x w) b) b
+        → Stands (printedBy (firstFault (lent s x w) b) b) o p m
     unfolding printedBy
-    refused-printed wrote room = front room wrote ∙ sym (ap (λ f. printedBy f b) fault)
+    refused-printed {m = m} {o = o} {p = p} wrote room =
+        subst (λ (text : List ℕ). Stands text o p m) (sym (ap (λ f. printedBy f b) fault)) (stands room wrote)

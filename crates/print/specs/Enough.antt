@@ -1,30 +1,25 @@
 -- What is lent by a caller that lends enough for every job: row 11 never holds, so what is printed is `printed`.
-use Prim.Native.Nat.{ℕ, _*_, _≤_}
+use Prim.Native.Nat.{ℕ, _≤_}
 use mathlib.Core.Path.{_≡_, refl, ap}
 use mathlib.Core.List.{List}
 use mathlib.Core.Option.{Option, none, some}
-use native.Mathlib.Nat.{mul-le-mul}
 use native.Mathlib.Omega.{arith}
-use lib.Pow.{pow-mono}
 use Rattle.spec.specs.Basics.{orElse}
-use Rattle.spec.specs.Job.{Header, pageSize, tableOffset, opsOffset, fileLength}
+use Rattle.spec.specs.Job.{Header}
 use Rattle.spec.specs.Decode.{headerOf}
 use Rattle.spec.specs.Check.{Lent, Fault, workSize, resultSize, smallOutput, numbered, jobFault, firstFault}
 use Rattle.spec.specs.Report.{printedBy, printed}
 use Rattle.laws.specs.Codec.Tools.{failed, among-none, among-end}
 use Rattle.laws.specs.Codec.Rows.{Limits, accepted-header}
+use Rattle.laws.specs.Codec.Longest.{file-most}
 
 -- no result is longer
 abbrev pub mostResult : ℕ
 mostResult = 21048
 
 result-most : (h : Header) → Limits h → resultSize h ≤ mostResult
-unfolding resultSize fileLength opsOffset tableOffset
-result-most h l =
-    let g = pow-mono {i = h .g} {j = 8} (l .depth) in
-    let c : pageSize (h .c) ≤ 68 = omega (arith, l .capacity .1) in
-    let p : pageSize (h .c) * h .limit ≤ 68 * 256 = mul-le-mul c (l .pages .1) in
-    omega (arith, l .ops)
+unfolding resultSize
+result-most h l = omega (arith, file-most h l, l .ops)
 
 module _ (b : List ℕ) (l : Lent) (result : mostResult ≤ l .result) (rows : 256 ≤ l .rows) (work : workSize ≤ l .work) where
   never : jobFault b ≡ none → smallOutput l b ≡ none

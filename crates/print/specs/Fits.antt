@@ -7,7 +7,7 @@ use native.Mathlib.Omega.{arith}
 use lib.ListN.{length, getD, length-map}
 use lib.Dec.{eqb}
 use borrow.Author.Tests.{eqb-true}
-use Rattle.spec.specs.Basics.{if}
+use Rattle.spec.specs.Basics.{if, Each}
 use Rattle.spec.specs.Bytes.{AreBytes}
 use Rattle.spec.specs.File.{File}
 use Rattle.spec.specs.Job.{Job}
@@ -16,7 +16,7 @@ use Rattle.spec.specs.State.{Row, gone}
 use Rattle.spec.specs.Run.{rowOf, run}
 use Rattle.spec.specs.Result.{countUnder, toldOf, logOf, resultOf, result}
 use Rattle.spec.specs.Check.{jobFault}
-use Rattle.spec.specs.Proper.{Each, FileOk}
+use Rattle.spec.specs.Proper.{FileOk}
 use Rattle.spec.specs.Claims.{noLine}
 use Rattle.laws.specs.Tools.{if-case, each-at}
 use Rattle.laws.specs.Codec.Tools.{each-map, each-places}

@@ -2,10 +2,7 @@
 use spec::Outcome;
 use turn::Row;
 ghost use mathlib.Core.Path.{_≡_};
-ghost use mathlib.Core.List.{List};
-ghost use Prim.Native.Nat.{ℕ, _<_, _≤_};
-ghost use lib.ListN.{length, take};
-ghost use Rattle.spec.specs.Check.{Lent};
+ghost use lib.ListN.{length};
 ghost use Rattle.run.specs.Call.{Settled};
 ghost use Rattle.print.specs.Table.{fullTable};
 ghost use Rattle.print.specs.Printed.{Prints, Leaves};

@@ -12,7 +12,6 @@ ghost use Rattle.spec.specs.Encode.{pageBytes};
 ghost use Rattle.spec.specs.Split.{added, grow, splitCount};
 ghost use Rattle.spec.specs.Turn.{cleared};
 ghost use Rattle.spec.specs.Cases.{foundOf};
-ghost use Rattle.spec.specs.declared.Rec.{Rec as RecV};
 ghost use Rattle.page.specs.Room.{room, Sound};
 ghost use Rattle.pieces.specs.Splits.{Splits, Enough};
 ghost use Rattle.probe.specs.Numbers.{foundNumber, recFor};

@@ -2,19 +2,18 @@
 use mathlib.Core.Path.{_≡_, refl, ap, _∙_}
 use mathlib.Core.List.{List, [], _++_, map, append-assoc}
 use mathlib.Core.Option.{Option, none, some}
-use Prim.Native.Nat.{ℕ, _+_, _^_, _≤_, _<_}
+use Prim.Native.Nat.{ℕ, _^_, _≤_, _<_}
 use native.Mathlib.Omega.{arith}
 use lib.ListN.{length, drop, length-append}
 use lib.Seq.{drop-at}
 use borrow.Author.Tests.{eq-eqb, ne-eqb}
-use Rattle.spec.specs.Basics.{if, each}
+use Rattle.spec.specs.Basics.{if, each, Each}
 use Rattle.spec.specs.Bytes.{byte, word, long, two, four, parts}
 use Rattle.spec.specs.File.{File}
 use Rattle.spec.specs.Job.{maxOps}
 use Rattle.spec.specs.Encode.{encodeFile}
 use Rattle.spec.specs.Decode.{jobOf}
 use Rattle.spec.specs.Result.{Told, Line, Result, answerBytes, lineBytes, logOffset, fileOffset, offsetField, fileBytes, resultHeader, encodeResult}
-use Rattle.spec.specs.Proper.{Each}
 use Rattle.laws.specs.Tools.{each-imp}
 use Rattle.laws.specs.Codec.Tools.{every}
 use Rattle.laws.specs.Codec.Numbers.{word-two, long-four}

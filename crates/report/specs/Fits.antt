@@ -3,10 +3,11 @@ use mathlib.Core.Path.{_≡_}
 use mathlib.Core.Option.{some}
 use Prim.Native.Nat.{ℕ, _^_, _≤_, _<_}
 use lib.ListN.{length}
+use Rattle.spec.specs.Basics.{Each}
 use Rattle.spec.specs.File.{File}
 use Rattle.spec.specs.Job.{maxOps}
 use Rattle.spec.specs.Result.{Told, Line, Result}
-use Rattle.spec.specs.Proper.{Each, FileOk}
+use Rattle.spec.specs.Proper.{FileOk}
 use Rattle.laws.specs.Codec.Proper.{RecordsFit}
 
 pub record ToldFits (a : Told) : Type 0 where

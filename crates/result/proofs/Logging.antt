@@ -7,12 +7,11 @@ use native.Mathlib.Omega.{arith}
 use lib.ListN.{length, getD, take, drop, length-append, take-append-drop}
 use lib.Seq.{take-suc, take-all, length-take-le}
 use borrow.Author.Tests.{eqb-true, eq-eqb, ne-eqb}
-use Rattle.spec.specs.Basics.{each}
+use Rattle.spec.specs.Basics.{each, Each}
 use Rattle.spec.specs.Bytes.{word}
 use Rattle.spec.specs.Code.{notYet}
 use Rattle.spec.specs.State.{Row, gone}
 use Rattle.spec.specs.Result.{Line, lineSize, lineBytes, linesFrom}
-use Rattle.spec.specs.Proper.{Each}
 use Rattle.laws.specs.Tools.{if-case, if-true, if-false, each-imp}
 use Rattle.laws.specs.Codec.Parts.{each-join}
 use Rattle.laws.specs.Codec.Sizes.{length-lines}

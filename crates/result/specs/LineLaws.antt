@@ -4,10 +4,9 @@ use mathlib.Core.List.{List, [], _∷_, _++_}
 use Prim.Native.Nat.{ℕ, zero, suc, _+_, _*_, _≤_, _<_}
 use native.Mathlib.Omega.{arith}
 use lib.ListN.{length, getD}
-use Rattle.spec.specs.Basics.{each}
+use Rattle.spec.specs.Basics.{each, Each}
 use Rattle.spec.specs.Bytes.{byte, word, two}
 use Rattle.spec.specs.Result.{Line, lineSize, lineBytes}
-use Rattle.spec.specs.Proper.{Each}
 use Rattle.laws.specs.Tools.{first, rest}
 use Rattle.laws.specs.Codec.Numbers.{word-two}
 use Rattle.laws.specs.Codec.Sizes.{length-line, length-lines}

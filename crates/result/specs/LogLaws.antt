@@ -9,11 +9,10 @@ use native.Mathlib.Decide.{ℕ-discrete}
 use lib.ListN.{length, getD, length-append, length-take, length-drop, List·getD-append}
 use lib.Seq.{take-append-seam, drop-append-seam, getD-append-add, append-snoc}
 use borrow.Author.Tests.{le-leb, lt-leb}
-use Rattle.spec.specs.Basics.{if}
+use Rattle.spec.specs.Basics.{if, Each, end, next}
 use Rattle.spec.specs.Code.{notYet}
 use Rattle.spec.specs.State.{Row}
 use Rattle.spec.specs.Result.{Line, isAt, linesAt, linesFrom}
-use Rattle.spec.specs.Proper.{Each, end, next}
 use Rattle.laws.specs.Tools.{if-case, if-true, if-false, each-append, each-at, each-imp}
 use Rattle.laws.specs.Codec.Tools.{each-imp₂ as each-both}
 use Rattle.laws.specs.Turns.Log.{Marked, marked, unmarked}

@@ -7,11 +7,11 @@ use native.Mathlib.Omega.{arith}
 use lib.ListN.{length, take, length-take}
 use lib.Pow.{pow-mono}
 use Rattle.spec.specs.declared.Op.{Op}
+use Rattle.spec.specs.Basics.{Each, end, next}
 use Rattle.spec.specs.File.{pageAt}
 use Rattle.spec.specs.Job.{Job}
 use Rattle.spec.specs.State.{State}
 use Rattle.spec.specs.Run.{stageOf, run}
-use Rattle.spec.specs.Proper.{Each, end, next}
 use Rattle.spec.specs.Claims.{stateAt}
 use Rattle.laws.specs.Tools.{first, rest}
 use Rattle.laws.specs.Codec.Back.{RecFits, PageFits}

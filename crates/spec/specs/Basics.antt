@@ -51,3 +51,13 @@ allOf f (x ∷ xs) = f x && allOf f xs
 unfoldable pub filter : {A : Type 0} → (A → Bool) → List A → List A
 filter f [] = []
 filter f (x ∷ xs) = if (f x) (x ∷ filter f xs) (filter f xs)
+
+-- every member has a property
+pub data Each {A : Type 0} (P : A → Type 0) : List A → Type 0 where
+  end : Each P []
+  next : {x : A} {xs : List A} → P x → Each P xs → Each P (x ∷ xs)
+
+-- x is a member
+pub data Has {A : Type 0} (x : A) : List A → Type 0 where
+  here : {xs : List A} → Has x (x ∷ xs)
+  there : {y : A} {xs : List A} → Has x xs → Has x (y ∷ xs)

@@ -6,11 +6,11 @@ use mathlib.Core.List.{List, [], _∷_, _++_}
 use mathlib.Core.Bool.{Bool, true, _&&_}
 use lib.ListN.{getD, take, drop}
 use lib.Dec.{eqb}
+use Rattle.spec.specs.Basics.{Each}
 
 -- each number of a byte string is a byte
-pub data AreBytes : List ℕ → Type 0 where
-  end : AreBytes []
-  next : {x : ℕ} {xs : List ℕ} → x < 256 → AreBytes xs → AreBytes (x ∷ xs)
+abbrev pub AreBytes : List ℕ → Type 0
+AreBytes b = Each (λ x. x < 256) b
 
 -- "Numbers are little-endian": the number of 1, 2 or 4 bytes at place p. Past the end every byte reads 0
 unfoldable pub byte : List ℕ → ℕ → ℕ

@@ -11,7 +11,7 @@ use Rattle.spec.specs.declared.Rec.{Rec}
 use Rattle.spec.specs.declared.Op.{Op}
 use Rattle.spec.specs.declared.Kind.the-variants.{Search}
 use Rattle.spec.specs.declared.Stage.the-variants.{Done}
-use Rattle.spec.specs.Basics.{if}
+use Rattle.spec.specs.Basics.{if, Has}
 use Rattle.spec.specs.Code.{notYet, noDepth, noPage}
 use Rattle.spec.specs.File.{findIn, contents}
 use Rattle.spec.specs.Job.{Job, noOp}
@@ -22,11 +22,6 @@ use Rattle.spec.specs.Result.{Told, Line, result}
 use Rattle.spec.specs.PlainList.{replyOf, nothingTold, Replay, replay}
 use Rattle.spec.specs.Check.{jobFault}
 use Rattle.spec.specs.Proper.{NoneTwice}
-
--- a record is in a list
-pub data Has {A : Type 0} (r : A) : List A → Type 0 where
-  here : {rs : List A} → Has r (r ∷ rs)
-  there : {a : A} {rs : List A} → Has r rs → Has r (a ∷ rs)
 
 -- the state after the first t turns, that is before turn t (turns count from 0)
 unfoldable pub stateAt : Job → ℕ → State
@@ -108,12 +103,13 @@ pub record Explained (j : Job) : Type 0 where
       → p < q
   -- "no search waits": at no time would a search's next turn wait
   pub searches : (t i : ℕ) → t ≤ length (j .turns) → getD (j .ops) i noOp .kind ≡ Search → Waits (stateAt j t) i → ⊥
-  -- "some unfinished operation can always use a turn", if one is unfinished. (A list that stops earlier is a shorter list of the same claim.)
+  -- "some unfinished operation can always use a turn": at every time, if one is unfinished
   pub progress
-      : (i : ℕ)
+      : (t i : ℕ)
+      → t ≤ length (j .turns)
       → i < length (j .ops)
-      → (stageOf (run j) i ≡ Done → ⊥)
-      → (k : ℕ) × (k < length (j .ops)) × (stageOf (run j) k ≡ Done → ⊥) × (Waits (run j) k → ⊥)
+      → (stageOf (stateAt j t) i ≡ Done → ⊥)
+      → (k : ℕ) × (k < length (j .ops)) × (stageOf (stateAt j t) k ≡ Done → ⊥) × (Waits (stateAt j t) k → ⊥)
   -- a finished operation has an answer
   pub finished : (i : ℕ) → i < length (j .ops) → stageOf (run j) i ≡ Done → answerOf j i .code ≡ notYet → ⊥
 

@@ -1,5 +1,5 @@
 -- "The job, byte by byte": a job and a charge file as bytes.
-use Prim.Native.Nat.{ℕ, _+_, _-_, _*_}
+use Prim.Native.Nat.{ℕ, _-_, _*_}
 use mathlib.Core.List.{List, [], _∷_, _++_}
 use lib.ListN.{length, drop, replicate}
 use Rattle.spec.specs.declared.Rec.{Rec}

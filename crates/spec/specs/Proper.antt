@@ -6,14 +6,10 @@ use mathlib.Core.Bool.{true}
 use mathlib.Core.Option.{none}
 use lib.ListN.{length, getD}
 use Rattle.spec.specs.declared.Rec.{Rec}
+use Rattle.spec.specs.Basics.{Each}
 use Rattle.spec.specs.Key.{index, begins}
 use Rattle.spec.specs.File.{Page, File, zeroPage, pageAt, entryAt, findIn}
 use Rattle.spec.specs.Job.{maxDepth, maxCapacity, maxPages}
-
--- every member of a list
-pub data Each {A : Type 0} (P : A → Type 0) : List A → Type 0 where
-  end : Each P []
-  next : {q : A} {qs : List A} → P q → Each P qs → Each P (q ∷ qs)
 
 -- no call is in a list twice: of each record, the rest has no record with its call
 pub data NoneTwice : List Rec → Type 0 where

@@ -1,5 +1,5 @@
 -- "Jobs worked through": the bytes of the marked jobs and of their results, as the document has them.
-use Prim.Native.Nat.{ℕ, _+_}
+use Prim.Native.Nat.{ℕ}
 use mathlib.Core.List.{List, [], _∷_, _++_}
 use lib.ListN.{set, take, drop, replicate}
 use Rattle.spec.specs.Basics.{each}

@@ -5,7 +5,7 @@ use spec::Stage;
 use spec::Task;
 ghost use mathlib.Core.Path.{_≡_};
 ghost use Prim.Native.Nat.{_+_, _<_};
-ghost use Rattle.turn.specs.Rows.{numbers, rowWith, taskNumbers, partNumbers, stageNumbers, stageIn, moved, answered};
+ghost use Rattle.turn.specs.Rows.{numbers, rowWith, taskNumbers, partNumbers, stageIn, moved, answered};
 
 pub fn stage_of(row: Row) -> Stage
     ensures { λ r. ⌜ r ≡ stageIn row ⌝ }

@@ -9,8 +9,6 @@ use spec::Op;
 use spec::Stage;
 ghost use mathlib.Core.Path.{_≡_};
 ghost use Prim.Native.Nat.{_≤_, _<_};
-ghost use lib.ListN.{length};
-ghost use Rattle.spec.specs.Check.{workSize};
 ghost use Rattle.spec.specs.File.{findIn};
 ghost use Rattle.spec.specs.Turn.{begin};
 ghost use Rattle.memory.specs.Memory.{pageIn};

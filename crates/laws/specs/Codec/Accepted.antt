@@ -8,11 +8,12 @@ use mathlib.Core.Option.{none}
 use native.Mathlib.Omega.{arith}
 use native.Mathlib.Decide.{decLt}
 use lib.ListN.{length, getD, List·getD-eq-default}
+use Rattle.spec.specs.Basics.{Each}
 use Rattle.spec.specs.Bytes.{zeros}
 use Rattle.spec.specs.File.{zeroPage, pageAt, entryAt}
 use Rattle.spec.specs.Decode.{headerOf, pageParts, turnParts, numberOf, fileOf, jobOf}
 use Rattle.spec.specs.Check.{overLimit, wrongEntry, wrongPage, wrongOwner, wrongRecord, wrongTurn, jobFault}
-use Rattle.spec.specs.Proper.{Each, PageNo, Fit, PageOk, FileOk}
+use Rattle.spec.specs.Proper.{PageNo, Fit, PageOk, FileOk}
 use Rattle.laws.specs.Codec.Tools.{each-map}
 use Rattle.laws.specs.Codec.Rows.{Rows, accepted-rows, limits-said, counted}
 use Rattle.laws.specs.Codec.Owner.{entries-said, Owners, owners-said}

@@ -7,25 +7,23 @@ use Rattle.spec.specs.declared.Kind.{Kind}
 use Rattle.spec.specs.declared.Kind.the-variants.{Search, Insert, Delete}
 use Rattle.spec.specs.declared.Rec.{Rec}
 use Rattle.spec.specs.declared.Op.{Op}
-use Rattle.spec.specs.Basics.{each}
-use Rattle.spec.specs.Bytes.{AreBytes, end, next, two, four}
+use Rattle.spec.specs.Basics.{each, Each, end, next}
+use Rattle.spec.specs.Bytes.{AreBytes, two, four}
 use Rattle.spec.specs.File.{Page}
 use Rattle.spec.specs.Job.{Job, Header, kindNumber, recordSize, maxDepth, maxCapacity}
 use Rattle.spec.specs.Encode.{headerBytes, recordBytes, pageBytes, opBytes, headerFor, encodeJob}
-use Rattle.spec.specs.Proper.{Each, end as eachEnd, next as eachNext, PageOk}
-use Rattle.laws.specs.Tools.{each-imp}
-use Rattle.laws.specs.Codec.Tools.{every}
+use Rattle.spec.specs.Proper.{PageOk}
+use Rattle.laws.specs.Tools.{each-imp, each-append}
+use Rattle.laws.specs.Codec.Tools.{every, each-places}
 use Rattle.laws.specs.Codec.Proper.{JobProper, pages-proper}
 
 -- a byte string, by its places
 pub are-bytes : (b : List ℕ) → ((k : ℕ) → getD b k 0 < 256) → AreBytes b
-are-bytes [] h = end
-are-bytes (x ∷ b) h = next (h 0) (are-bytes b (λ k. h (suc k)))
+are-bytes b h = each-places b 0 .1 (λ k l. h k)
 
 infixl 60 _and_
 _and_ : {x y : List ℕ} → AreBytes x → AreBytes y → AreBytes (x ++ y)
-end and k = k
-next h t and k = next h (t and k)
+h and k = each-append _ _ h k
 
 pair-are : (x y : ℕ) → x < 256 → y < 256 → AreBytes (x ∷ y ∷ [])
 pair-are x y l u = next l (next u end)
@@ -44,8 +42,8 @@ zeros-are (suc n) = next {x = 0} (omega arith) (zeros-are n)
 
 each-are : {A : Type 0} {enc : A → List ℕ} {xs : List A} → Each (λ x. AreBytes (enc x)) xs → AreBytes (each enc xs)
 unfolding each
-each-are eachEnd = end
-each-are (eachNext h t) = h and each-are t
+each-are end = end
+each-are (next h t) = h and each-are t
 
 record-are : (r : Rec) → AreBytes (recordBytes r)
 unfolding recordBytes

@@ -7,13 +7,12 @@ use Rattle.spec.specs.declared.Kind.{Kind}
 use Rattle.spec.specs.declared.Kind.the-variants.{Search, Insert, Delete}
 use Rattle.spec.specs.declared.Rec.{Rec}
 use Rattle.spec.specs.declared.Op.{Op}
-use Rattle.spec.specs.Basics.{if, each}
+use Rattle.spec.specs.Basics.{if, each, Each, end, next}
 use Rattle.spec.specs.Bytes.{byte, word, long, two, four, parts}
 use Rattle.spec.specs.File.{Page, File, zeroPage}
 use Rattle.spec.specs.Job.{Job, Header, kindNumber, kindOf}
 use Rattle.spec.specs.Encode.{headerBytes, recordBytes, pageBytes, opBytes, headerFor, encodeJob}
 use Rattle.spec.specs.Decode.{headerOf, numberOf, recordOf, pageOf, opOf, fileOf, jobOf}
-use Rattle.spec.specs.Proper.{Each, end, next}
 use Rattle.laws.specs.Tools.{each-imp}
 use Rattle.laws.specs.Codec.Tools.{every}
 use Rattle.laws.specs.Codec.Parts.{parts-each}

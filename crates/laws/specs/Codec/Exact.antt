@@ -6,13 +6,12 @@ use mathlib.Core.List.{List, []}
 use mathlib.Core.Option.{none}
 use native.Mathlib.Omega.{arith}
 use lib.ListN.{drop}
-use Rattle.spec.specs.Basics.{if}
+use Rattle.spec.specs.Basics.{if, Each}
 use Rattle.spec.specs.Bytes.{AreBytes, byte}
 use Rattle.spec.specs.Job.{Job, kindOf, opSize, tableOffset, opsOffset}
 use Rattle.spec.specs.Encode.{encodeJob}
 use Rattle.spec.specs.Decode.{headerOf, pageParts, opParts, recordOf, pageOf, opOf, fileOf, jobOf}
 use Rattle.spec.specs.Check.{wrongOp, jobFault}
-use Rattle.spec.specs.Proper.{Each}
 use Rattle.laws.specs.Tools.{each-imp}
 use Rattle.laws.specs.Codec.Tools.{each-imp₂, each-map, each-places}
 use Rattle.laws.specs.Codec.Numbers.{drop-bytes, parts-bytes, long-lt}

@@ -5,13 +5,12 @@ use mathlib.Core.List.{List, [], _∷_, map}
 use mathlib.Core.Option.{none}
 use native.Mathlib.Omega.{arith}
 use lib.ListN.{length, drop, replicate, length-map, length-drop}
-use Rattle.spec.specs.Basics.{if, each}
+use Rattle.spec.specs.Basics.{if, each, Each}
 use Rattle.spec.specs.Bytes.{AreBytes, byte, word, long, two, four, parts}
 use Rattle.spec.specs.Job.{Header, kindNumber, kindOf, pageSize, tableOffset, opsOffset, turnsOffset, total}
 use Rattle.spec.specs.Encode.{headerBytes, recordBytes, pageBytes, opBytes, headerFor, encodeJob}
 use Rattle.spec.specs.Decode.{headerOf, entryParts, pageParts, opParts, turnParts, numberOf, recordOf, pageOf, opOf, fileOf, jobOf}
 use Rattle.spec.specs.Check.{wrongOp, jobFault}
-use Rattle.spec.specs.Proper.{Each}
 use Rattle.laws.specs.Tools.{each-imp}
 use Rattle.laws.specs.Codec.Tools.{each-imp₂, each-places}
 use Rattle.laws.specs.Codec.Parts.{length-parts, each-parts}

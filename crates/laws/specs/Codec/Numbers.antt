@@ -6,8 +6,8 @@ use mathlib.Core.Bool.{true, and-eq-true-iff}
 use native.Mathlib.Omega.{arith}
 use native.Mathlib.Nat.{add-zero, add-comm, add-mul-mod-self-left, mod-eq-of-lt, mul-add-div, div-eq-of-lt}
 use lib.ListN.{length, take, drop, replicate}
-use Rattle.spec.specs.Bytes.{AreBytes, end, next, byte, word, long, two, four, parts, zeros}
-use Rattle.spec.specs.Proper.{Each, end as eachEnd, next as eachNext}
+use Rattle.spec.specs.Basics.{Each, end, next}
+use Rattle.spec.specs.Bytes.{AreBytes, byte, word, long, two, four, parts, zeros}
 use Rattle.laws.specs.Codec.Tools.{eqb-yes, each-imp₂}
 use Rattle.laws.specs.Codec.Parts.{parts-size}
 
@@ -67,8 +67,8 @@ drop-bytes (suc n) (x ∷ b) (next h t) = drop-bytes n b t
 
 pub parts-bytes : (n size : ℕ) (b : List ℕ) → AreBytes b → Each AreBytes (parts n size b)
 unfolding parts
-parts-bytes zero size b h = eachEnd
-parts-bytes (suc n) size b h = eachNext (take-bytes size b h) (parts-bytes n size (drop size b) (drop-bytes size b h))
+parts-bytes zero size b h = end
+parts-bytes (suc n) size b h = next (take-bytes size b h) (parts-bytes n size (drop size b) (drop-bytes size b h))
 
 -- a part of n bytes
 pub record Whole (n : ℕ) (p : List ℕ) : Type 0 where

@@ -4,12 +4,11 @@ use mathlib.Core.Path.{_≡_}
 use mathlib.Core.Logic.{_↔_, Iff·rfl}
 use mathlib.Core.List.{List}
 use mathlib.Core.Option.{none}
-use Rattle.spec.specs.Basics.{firstOf}
+use Rattle.spec.specs.Basics.{firstOf, Each}
 use Rattle.spec.specs.Bytes.{byte, long}
 use Rattle.spec.specs.Job.{Header}
 use Rattle.spec.specs.Decode.{numberOf}
 use Rattle.spec.specs.Check.{badOp, opFault, turnFault}
-use Rattle.spec.specs.Proper.{Each}
 use Rattle.laws.specs.Codec.Tools.{failed}
 use Rattle.laws.specs.Codec.Walk.{first-each}
 

@@ -7,9 +7,8 @@ use native.Mathlib.Omega.{arith}
 use native.Mathlib.Nat.{mul-zero, add-assoc}
 use lib.ListN.{length, getD, take, drop, length-append, length-drop}
 use lib.Seq.{getD-take, getD-drop, drop-drop, take-add, take-at, drop-at, length-take-le}
-use Rattle.spec.specs.Basics.{each}
+use Rattle.spec.specs.Basics.{each, Each, end, next}
 use Rattle.spec.specs.Bytes.{byte, word, long, parts}
-use Rattle.spec.specs.Proper.{Each, end, next}
 
 -- places
 next-place : (size i : ℕ) → size * suc i ≡ size + size * i

@@ -8,9 +8,10 @@ use lib.ListN.{length, getD, drop, length-drop}
 use lib.Pow.{pow-mono}
 use Rattle.spec.specs.declared.Kind.the-variants.{Insert}
 use Rattle.spec.specs.declared.Op.{Op}
+use Rattle.spec.specs.Basics.{Each, end}
 use Rattle.spec.specs.File.{Page, File, zeroPage, pageAt}
 use Rattle.spec.specs.Job.{Job, maxOps, maxTurns}
-use Rattle.spec.specs.Proper.{Each, end, empty, PageNo, PageOk, FileOk}
+use Rattle.spec.specs.Proper.{empty, PageNo, PageOk, FileOk}
 use Rattle.laws.specs.Tools.{each-imp}
 use Rattle.laws.specs.Codec.Tools.{each-places}
 use Rattle.laws.specs.Codec.InUse.{page-behind}

@@ -9,11 +9,11 @@ use mathlib.Core.Option.{Option, none, some, Option·none-ne-some}
 use native.Mathlib.Omega.{arith}
 use lib.ListN.{length, getD, take}
 use Rattle.spec.specs.declared.Rec.{Rec}
-use Rattle.spec.specs.Basics.{isSome, firstOf}
+use Rattle.spec.specs.Basics.{isSome, firstOf, Each}
 use Rattle.spec.specs.File.{Page, File, pageAt, pagesInUse, findIn}
 use Rattle.spec.specs.Job.{Header}
 use Rattle.spec.specs.Check.{badRecord, recordFault, recordFaultIn}
-use Rattle.spec.specs.Proper.{Each, NoneTwice, empty, more, In, PageNo}
+use Rattle.spec.specs.Proper.{NoneTwice, empty, more, In, PageNo}
 use Rattle.laws.specs.Turns.Records.{find-nil, find-miss, none-head, none-tail}
 use Rattle.laws.specs.Codec.Tools.{failed, each-places}
 use Rattle.laws.specs.Codec.Walk.{by-places, first-none}

@@ -8,13 +8,12 @@ use lib.ListN.{length, drop, length-append, length-replicate}
 use lib.Seq.{drop-at}
 use Rattle.spec.specs.declared.Rec.{Rec}
 use Rattle.spec.specs.declared.Op.{Op}
-use Rattle.spec.specs.Basics.{each}
+use Rattle.spec.specs.Basics.{each, Each}
 use Rattle.spec.specs.Bytes.{two, four, parts}
 use Rattle.spec.specs.File.{Page, File}
 use Rattle.spec.specs.Job.{Job, Header, recordSize, pageSize, opSize, headerSize, tableOffset, opsOffset, turnsOffset, total}
 use Rattle.spec.specs.Encode.{headerBytes, recordBytes, pageBytes, opBytes, headerFor, encodeJob}
 use Rattle.spec.specs.Decode.{entryParts, pageParts, opParts, turnParts}
-use Rattle.spec.specs.Proper.{Each}
 use Rattle.laws.specs.Tools.{each-imp}
 use Rattle.laws.specs.Codec.Tools.{every}
 use Rattle.laws.specs.Codec.Parts.{length-each, parts-each}

@@ -1,34 +1,20 @@
 -- How long the written things are: a job, a charge file, a result.
-use Prim.Native.Nat.{ℕ, _+_, _*_, _^_, _≤_}
+use Prim.Native.Nat.{ℕ, _+_, _*_}
 use mathlib.Core.Path.{_≡_, refl}
 use mathlib.Core.List.{List}
 use native.Mathlib.Omega.{arith}
-use native.Mathlib.Nat.{mul-le-mul}
 use lib.ListN.{length, length-append}
-use lib.Pow.{pow-mono}
 use Rattle.spec.specs.Basics.{each}
 use Rattle.spec.specs.Bytes.{two, four}
 use Rattle.spec.specs.File.{File}
-use Rattle.spec.specs.Job.{Header, pageSize, tableOffset, opsOffset, turnsOffset, total, fileLength}
+use Rattle.spec.specs.Job.{turnsOffset, total, fileLength}
 use Rattle.spec.specs.Encode.{headerFor, encodeFile}
 use Rattle.spec.specs.Result.{Told, Line, Result, answerSize, answerBytes, lineSize, lineBytes, answersOffset, fileBytes, resultHeader, encodeResult}
 use Rattle.spec.specs.Proper.{FileOk}
 use Rattle.laws.specs.Codec.Tools.{every}
 use Rattle.laws.specs.Codec.Parts.{length-each}
-use Rattle.laws.specs.Codec.Rows.{Limits}
 use Rattle.laws.specs.Codec.Sections.{jobFor, length-job}
 use Rattle.laws.specs.Codec.Proper.{file-sized}
-
--- no job is longer than 53,280 bytes
-pub total-most : (h : Header) → Limits h → total h ≤ 53280
-unfolding total turnsOffset opsOffset tableOffset
-total-most h l =
-    let d : 2 ^ h .g ≤ 256 = pow-mono (l .depth) in
-    let m = mul-le-mul page (l .pages .1) in
-    omega (arith, l .ops, l .turns)
-  where
-    page : pageSize (h .c) ≤ 68
-    page = omega (arith, l .capacity)
 
 -- a charge file is as long as the header of its job tells
 pub length-file : (f : File) → FileOk f → length (encodeFile f) ≡ fileLength (headerFor f 0 0)

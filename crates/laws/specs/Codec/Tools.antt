@@ -10,9 +10,8 @@ use native.Mathlib.Omega.{arith}
 use lib.ListN.{length, getD}
 use lib.Dec.{ltb, leb, eqb}
 use borrow.Author.Tests.{ltb-true, ltb-false, leb-false, eqb-true, eqb-false, not-true, not-false, lt-ltb, le-ltb, lt-leb, eq-eqb, ne-eqb}
-use Rattle.spec.specs.Basics.{when, orElse, among}
+use Rattle.spec.specs.Basics.{when, orElse, among, Each, end, next}
 use Rattle.spec.specs.Check.{outside, numbered, firstRow}
-use Rattle.spec.specs.Proper.{Each, end, next}
 use Rattle.laws.specs.Tools.{first, rest, each-at}
 
 -- tests

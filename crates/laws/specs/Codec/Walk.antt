@@ -8,8 +8,7 @@ use mathlib.Core.Bool.{Bool, true, false, _||_}
 use mathlib.Core.Option.{Option, none, some}
 use native.Mathlib.Omega.{arith}
 use lib.ListN.{length, getD}
-use Rattle.spec.specs.Basics.{orElse, firstOf, anyOf}
-use Rattle.spec.specs.Proper.{Each, end}
+use Rattle.spec.specs.Basics.{orElse, firstOf, anyOf, Each, end}
 use Rattle.laws.specs.Codec.Tools.{or-no, orElse-none, each-cons}
 
 module _ {A : Type 0} where

@@ -29,7 +29,7 @@ use Rattle.laws.specs.Codec.Pages.{PageFine, pages-said}
 use Rattle.laws.specs.Codec.Ops.{OpFine, ops-said, turns-said}
 use Rattle.laws.specs.Codec.Sections.{length-records, jobFor, headOf, header-first, length-job, pages-written, ops-written, turns-written}
 use Rattle.laws.specs.Codec.Back.{JobFits, number-back, sized, head-back, file-back, decode-encode}
-use Rattle.laws.specs.Codec.Sizes.{total-most}
+use Rattle.laws.specs.Codec.Longest.{total-most}
 use Rattle.laws.specs.Codec.Proper.{RecordsFit, OpProper, JobProper, pages-proper, job-fits, file-proper}
 
 -- a page's bytes pass row 6

@@ -11,12 +11,13 @@ use lib.ListN.{length}
 use borrow.Author.Tests.{lt-ltb, le-ltb}
 use Rattle.spec.specs.declared.Rec.{Rec}
 use Rattle.spec.specs.declared.Op.{Op}
+use Rattle.spec.specs.Basics.{Each}
 use Rattle.spec.specs.Key.{bit}
 use Rattle.spec.specs.File.{Page, File, pageAt}
 use Rattle.spec.specs.Job.{maxDepth}
 use Rattle.spec.specs.Split.{hasBit, withBit, half, added, Grown, joined, grow, allShare, leastShared, splitCount}
 use Rattle.spec.specs.Turn.{recOf, planOf, newCount}
-use Rattle.spec.specs.Proper.{Each, In, Fit, PageOk}
+use Rattle.spec.specs.Proper.{In, Fit, PageOk}
 use Rattle.laws.specs.Tools.{if-true, if-false, beq-refl, beq-true, each-imp, filter-all, filter-few}
 use Rattle.laws.specs.Turns.Shared.{Shares, least-most, least-all, not-allShare, next-bit, bit-next}
 

@@ -9,12 +9,12 @@ use native.Mathlib.Nat.{le-refl, pow-suc}
 use lib.ListN.{length}
 use Rattle.spec.specs.declared.Rec.{Rec}
 use Rattle.spec.specs.declared.Op.{Op}
-use Rattle.spec.specs.Basics.{if}
+use Rattle.spec.specs.Basics.{if, Each, end, next}
 use Rattle.spec.specs.Key.{bit}
 use Rattle.spec.specs.File.{Page, File, pageAt}
 use Rattle.spec.specs.Split.{digit, half, added, Grown, joined, grow}
 use Rattle.spec.specs.Turn.{recOf, planOf, newCount}
-use Rattle.spec.specs.Proper.{end, next, Each, Fit, PageOk}
+use Rattle.spec.specs.Proper.{Fit, PageOk}
 use Rattle.laws.specs.Tools.{if-case, first, rest, each-imp}
 use Rattle.laws.specs.Turns.Grow.{joined-each}
 use Rattle.laws.specs.Turns.Work.{Plan}

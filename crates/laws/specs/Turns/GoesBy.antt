@@ -14,7 +14,7 @@ use Rattle.spec.specs.declared.Rec.{Rec}
 use Rattle.spec.specs.declared.Op.{Op}
 use Rattle.spec.specs.declared.Part.the-variants.{WriteEntry}
 use Rattle.spec.specs.declared.Stage.the-variants.{Split}
-use Rattle.spec.specs.Basics.{if}
+use Rattle.spec.specs.Basics.{if, Each}
 use Rattle.spec.specs.Key.{index, bit, begins}
 use Rattle.spec.specs.File.{Page, File, zeroPage, pageAt}
 use Rattle.spec.specs.Job.{noOp}
@@ -22,7 +22,7 @@ use Rattle.spec.specs.Split.{half, Grown, joined, grow, newOwner}
 use Rattle.spec.specs.State.{State}
 use Rattle.spec.specs.Turn.{homeOf, recOf, planOf, newCount, goesTo}
 use Rattle.spec.specs.Run.{stageOf}
-use Rattle.spec.specs.Proper.{Each, In, Fit, PageOk}
+use Rattle.spec.specs.Proper.{In, Fit, PageOk}
 use Rattle.laws.specs.Tools.{if-case, if-true, if-false, beq-refl, first, rest, each-imp, each-at}
 use Rattle.laws.specs.Key.{index-onto}
 use Rattle.laws.specs.Turns.Prefix.{fit-32, index-in, index-prefix, begins-in, in-begins, of-half, to-half}

@@ -6,10 +6,11 @@ use mathlib.Core.List.{List, _∷_}
 use mathlib.Core.Bool.{Bool, true, false, true≢false, not}
 use native.Mathlib.Omega.{arith}
 use Rattle.spec.specs.declared.Rec.{Rec}
+use Rattle.spec.specs.Basics.{Each, end, next}
 use Rattle.spec.specs.Key.{index, bit}
 use Rattle.spec.specs.File.{Page, findIn}
 use Rattle.spec.specs.Split.{hasBit, withBit, digit, half, added, Grown, joined, grow}
-use Rattle.spec.specs.Proper.{end, next, Each, In}
+use Rattle.spec.specs.Proper.{In}
 use Rattle.laws.specs.Tools.{if-case, beq-refl, first, rest, each-imp}
 use Rattle.laws.specs.Turns.Prefix.{of-half, to-half}
 use Rattle.laws.specs.Turns.Records.{added-other, filter-find}

@@ -9,11 +9,11 @@ use native.Mathlib.Decide.{ℕ-discrete}
 use lib.ListN.{length, getD}
 use lib.Dec.{eqb}
 use borrow.Author.Tests.{eqb-true, eqb-false, eq-eqb, ne-eqb, not-true}
+use Rattle.spec.specs.Basics.{Each, end, next}
 use Rattle.spec.specs.Code.{notYet}
 use Rattle.spec.specs.State.{Row, State, gone}
 use Rattle.spec.specs.Run.{rowOf}
 use Rattle.spec.specs.Result.{Line, isAt, linesAt, linesFrom, logOf}
-use Rattle.spec.specs.Proper.{end, next, Each}
 use Rattle.spec.specs.Claims.{times, Before, noLine}
 use Rattle.laws.specs.Tools.{if-case, if-true, if-false, and-left, and-right, first, rest, each-imp, each-append, each-at}
 use Rattle.laws.specs.Turns.Rows.{code-row}

@@ -16,7 +16,7 @@ use Rattle.spec.specs.declared.Part.{Part}
 use Rattle.spec.specs.declared.Part.the-variants.{WriteNew, WriteEntry, UnlockNew}
 use Rattle.spec.specs.declared.Stage.{Stage}
 use Rattle.spec.specs.declared.Stage.the-variants.{NotBegun, ReadPage, Reread, Lock, Held, Split, Done}
-use Rattle.spec.specs.Basics.{if}
+use Rattle.spec.specs.Basics.{if, Each, end, next}
 use Rattle.spec.specs.Key.{bit}
 use Rattle.spec.specs.File.{Page, File, zeroPage, pageAt, findIn, without}
 use Rattle.spec.specs.Job.{Job, noOp}
@@ -25,7 +25,6 @@ use Rattle.spec.specs.Code.{stored}
 use Rattle.spec.specs.State.{Row, State, Answer, same, answer, PageWrite, Move, gone, go}
 use Rattle.spec.specs.Turn.{recOf, planOf, begin, looked, reread, placed, decided, chargeIn, cleared, written, verified, oldWritten, heldTurn, splitTurn, turn}
 use Rattle.spec.specs.Run.{tableAfter, chargeAfter, rowAfter, rowOf, stageOf, tick, act, step, start, run}
-use Rattle.spec.specs.Proper.{end, next, Each}
 use Rattle.laws.specs.Tools.{if-case, first, rest, each-append, each-or, set-all, filter-each}
 use Rattle.laws.specs.Turns.Records.{find-each}
 use Rattle.laws.specs.Turns.Grow.{joined-each}

@@ -5,11 +5,11 @@ use mathlib.Core.List.{List, [], _∷_}
 use mathlib.Core.Bool.{Bool, true, false, true≢false}
 use native.Mathlib.Omega.{arith}
 use lib.ListN.{length, getD}
-use Rattle.spec.specs.Basics.{if}
+use Rattle.spec.specs.Basics.{if, Each, end, next}
 use Rattle.spec.specs.Key.{index, begins}
 use Rattle.spec.specs.File.{Page}
 use Rattle.spec.specs.Split.{newOwner}
-use Rattle.spec.specs.Proper.{end, next, Each, In}
+use Rattle.spec.specs.Proper.{In}
 use Rattle.laws.specs.Tools.{if-case, if-true, first, rest, each-at}
 use Rattle.laws.specs.Turns.Prefix.{begins-in, in-begins}
 

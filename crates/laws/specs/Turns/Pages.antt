@@ -11,11 +11,12 @@ use native.Mathlib.Nat.{pow-suc}
 use lib.ListN.{length, length-append}
 use borrow.Author.Tests.{ltb-true, ltb-false}
 use Rattle.spec.specs.declared.Rec.{Rec}
+use Rattle.spec.specs.Basics.{Each, end, next}
 use Rattle.spec.specs.Key.{bit}
 use Rattle.spec.specs.File.{Page, zeroPage, findIn, isNot, without}
 use Rattle.spec.specs.Split.{hasBit, withBit, digit, half, added, Grown, grow, leastShared}
 use Rattle.spec.specs.Turn.{cleared}
-use Rattle.spec.specs.Proper.{end, next, Each, empty, In, PageOk}
+use Rattle.spec.specs.Proper.{empty, In, PageOk}
 use Rattle.laws.specs.Tools.{if-case, beq-true, each-append, filter-each, filter-le}
 use Rattle.laws.specs.Turns.Prefix.{of-half, to-half}
 use Rattle.laws.specs.Turns.Records.{added-own, filter-twice, added-twice}

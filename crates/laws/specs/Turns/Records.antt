@@ -10,10 +10,9 @@ use native.Mathlib.Omega.{arith}
 use native.Mathlib.Decide.{ℕ-discrete}
 use borrow.Author.Tests.{eq-eqb, ne-eqb}
 use Rattle.spec.specs.declared.Rec.{Rec}
-use Rattle.spec.specs.Basics.{filter}
+use Rattle.spec.specs.Basics.{filter, Each, Has, here, there}
 use Rattle.spec.specs.File.{Page, findIn, isNot, without}
-use Rattle.spec.specs.Proper.{Each, NoneTwice, empty, more, In}
-use Rattle.spec.specs.Claims.{Has, here, there}
+use Rattle.spec.specs.Proper.{NoneTwice, empty, more, In}
 use Rattle.laws.specs.Tools.{if-case, if-true, if-false, first, rest}
 
 pub find-nil : (k : ℕ) → findIn [] k ≡ none
@@ -117,12 +116,12 @@ find-has (a ∷ rs) k r h =
     (λ e. let ih = find-has rs k r (sym (find-miss a rs k e) ∙ h) in (there (ih .0), ih .1))
 
 has-some : {rs : List Rec} {r : Rec} → Has r rs → findIn rs (r .call) ≡ none → ⊥
-has-some {r} (here {rs}) n = none-head r rs (r .call) n refl
-has-some {r} (there {a} {rs} h) n = has-some h (none-tail a rs (r .call) n)
+has-some {r} (here {xs}) n = none-head r xs (r .call) n refl
+has-some {r} (there {y} {xs} h) n = has-some h (none-tail y xs (r .call) n)
 
 has-find : {rs : List Rec} {r : Rec} → NoneTwice rs → Has r rs → findIn rs (r .call) ≡ some r
-has-find {r} t (here {rs}) = find-hit r rs (r .call) refl
-has-find {r} (more e t) (there {a} {rs} h) = find-miss a rs (r .call) (λ q. has-some h (rw (← q) e)) ∙ has-find t h
+has-find {r} t (here {xs}) = find-hit r xs (r .call) refl
+has-find {r} (more e t) (there {y} {xs} h) = find-miss y xs (r .call) (λ q. has-some h (rw (← q) e)) ∙ has-find t h
 
 -- two such lists in which the same is found have the same members
 pub same-has : (xs ys : List Rec) → NoneTwice xs → ((k : ℕ) → findIn xs k ≡ findIn ys k) → (r : Rec) → Has r xs → Has r ys

@@ -7,10 +7,10 @@ use native.Mathlib.Omega.{arith}
 use lib.ListN.{getD}
 use Rattle.spec.specs.declared.Op.{Op}
 use Rattle.spec.specs.declared.Kind.the-variants.{Search, Insert, Delete}
-use Rattle.spec.specs.Basics.{if}
+use Rattle.spec.specs.Basics.{if, end, next}
 use Rattle.spec.specs.Key.{index, begins}
 use Rattle.spec.specs.File.{File, zeroPage, pageAt, entryAt, findIn}
-use Rattle.spec.specs.Proper.{end, next, empty, more, PageNo, PageOk, FileOk}
+use Rattle.spec.specs.Proper.{empty, more, PageNo, PageOk, FileOk}
 use Rattle.spec.specs.Claims.{Explained}
 use Rattle.laws.specs.Key.{index-lt}
 use Rattle.laws.specs.Turns.Theorem.{explained}

@@ -10,9 +10,9 @@ use native.Mathlib.Decide.{decLe}
 use lib.Dec.{eqb, leb}
 use borrow.Author.Tests.{eqb-true, eqb-false, eq-eqb, leb-false, leb-true, le-leb}
 use Rattle.spec.specs.declared.Rec.{Rec}
+use Rattle.spec.specs.Basics.{Each, end, next}
 use Rattle.spec.specs.Key.{pseudoKey, index, bit, shared}
 use Rattle.spec.specs.Split.{sharesIndex, allShare, leastShared}
-use Rattle.spec.specs.Proper.{end, next, Each}
 use Rattle.laws.specs.Tools.{if-case, bool-same, first, rest, each-imp, allOf-true, true-allOf}
 use Rattle.laws.specs.Key.{index-lt}
 use Rattle.laws.specs.Turns.Prefix.{index-prefix, to-half}

@@ -8,13 +8,13 @@ use native.Mathlib.Decide.{ℕ-discrete}
 use lib.ListN.{length}
 use lib.Dec.{eqb}
 use borrow.Author.Tests.{eqb-true, eqb-false}
-use Rattle.spec.specs.Basics.{if}
+use Rattle.spec.specs.Basics.{if, Each}
 use Rattle.spec.specs.Job.{Job}
 use Rattle.spec.specs.Code.{notYet}
 use Rattle.spec.specs.State.{Row, State, Move, gone}
 use Rattle.spec.specs.Run.{rowAfter, rowOf, tick, act, step, start, run}
 use Rattle.spec.specs.Result.{Line, logOf, resultOf, result}
-use Rattle.spec.specs.Proper.{Each, FileOk}
+use Rattle.spec.specs.Proper.{FileOk}
 use Rattle.spec.specs.Claims.{times}
 use Rattle.laws.specs.Tools.{if-case, first, rest, each-imp, set-all}
 use Rattle.laws.specs.Turns.Rows.{step-case, steps-keep, first-row}

@@ -8,10 +8,11 @@ use native.Mathlib.Omega.{arith}
 use native.Mathlib.Decide.{ℕ-discrete}
 use lib.ListN.{getD}
 use Rattle.spec.specs.declared.Op.{Op}
+use Rattle.spec.specs.Basics.{Each}
 use Rattle.spec.specs.Key.{index}
 use Rattle.spec.specs.File.{File, zeroPage, pageAt}
 use Rattle.spec.specs.Turn.{recOf, planOf, newCount, goesTo}
-use Rattle.spec.specs.Proper.{Each, In, Fit, PageOk}
+use Rattle.spec.specs.Proper.{In, Fit, PageOk}
 use Rattle.laws.specs.Tools.{rest, each-imp, each-at}
 use Rattle.laws.specs.Turns.Prefix.{fit-32, begins-in}
 use Rattle.laws.specs.Turns.Owners.{newOwner-at, newOwner-none, newOwner-is}

@@ -15,13 +15,14 @@ use Rattle.spec.specs.declared.Task.the-variants.{WriteOld}
 use Rattle.spec.specs.declared.Part.the-variants.{WriteNew, WriteEntry, UnlockNew}
 use Rattle.spec.specs.declared.Stage.{Stage}
 use Rattle.spec.specs.declared.Stage.the-variants.{Held, Split, Done}
+use Rattle.spec.specs.Basics.{Each}
 use Rattle.spec.specs.Key.{index}
 use Rattle.spec.specs.File.{Page, File, zeroPage, pageAt, entryAt, findIn}
 use Rattle.spec.specs.Split.{Grown}
 use Rattle.spec.specs.State.{State, same, Move, goLock, goPage, goEntry}
 use Rattle.spec.specs.Turn.{homeOf, recOf, planOf, newCount, goesTo, oldWritten, entriesFrom, splitTurn}
 use Rattle.spec.specs.Run.{tableAfter, directoryAfter, fileAfter}
-use Rattle.spec.specs.Proper.{Each, In, PageNo}
+use Rattle.spec.specs.Proper.{In, PageNo}
 use Rattle.laws.specs.Tools.{if-case, first, rest, each-at}
 use Rattle.laws.specs.Turns.Prefix.{index-in}
 use Rattle.laws.specs.Turns.Records.{found-in}

@@ -138,15 +138,17 @@ module _ (j : Job) (ok : FileOk (j .file)) where
       both = omega (arith, early, late)
 
   can-move
-      : (i : ℕ)
+      : (t i : ℕ)
+      → t ≤ length (j .turns)
       → i < length (j .ops)
-      → (stageOf (run j) i ≡ Done → ⊥)
-      → (k : ℕ) × (k < length (j .ops)) × (stageOf (run j) k ≡ Done → ⊥) × (Waits (run j) k → ⊥)
-  can-move i l n =
-      let p = progress (run j) (w .good .locks) i n in (
+      → (stageOf (stateAt j t) i ≡ Done → ⊥)
+      → (k : ℕ) × (k < length (j .ops)) × (stageOf (stateAt j t) k ≡ Done → ⊥) × (Waits (stateAt j t) k → ⊥)
+  can-move t i h l n =
+      let then = whole j ok t h in
+      let p = progress (stateAt j t) (then .good .locks) i n in (
         p .0,
-        omega (arith, moves-row (run j) (p .0) (p .1), w .rows),
-        λ d. true≢false (sym (done-idle (run j .locks) _ d) ∙ p .1),
+        omega (arith, moves-row (stateAt j t) (p .0) (p .1), then .rows),
+        λ d. true≢false (sym (done-idle (stateAt j t .locks) _ d) ∙ p .1),
         λ w. true≢false (sym (w .idles) ∙ p .1),
       )
 

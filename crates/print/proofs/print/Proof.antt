@@ -2,7 +2,7 @@ use mathlib.Core.Path.{sym}
 use native.Mathlib.Omega.{arith}
 use lib.Seq.{length-take-le}
 use Rattle.laws.specs.Codec.AsBytes.{are-bytes}
-use Rattle.print.proofs.Laws.{ran-fits, ran-sound, ran-printed, refused-printed, within}
+use Rattle.print.proofs.Laws.{ran-fits, ran-sound, ran-printed, refused-printed}
 use borrow.Author.Needs.{needs}
 use Rattle.print.proofs.print.Statement.{statement}
 use Rattle.print.proofs.print.Tie as tie
@@ -52,7 +52,6 @@ returns-2 c =
     let known = r .before .before .before .before .before .before .before .shared-slice-known .given in (
       (
         omega arith,
-        within (c .before .before .report .ensures) (omega arith),
         ran-printed (r .run-here .ensures) (c .before .before .before .before .before .before .o .given .1) (are-bytes _ (λ k. omega (arith, known k))) (c .before .before .report .ensures) (omega arith),
       ),
       (r .run-here .ensures .result, r .run-here .ensures .work),
@@ -69,7 +68,6 @@ returns-3 c =
     let r = c .before .before .before .before .before .before .before .before .before .before .before in (
       (
         omega arith,
-        within (c .before .before .refused .ensures) (omega arith),
         refused-printed (r .run-here .ensures) (c .before .before .before .before .before .o2 .given .1) (c .before .before .refused .ensures) (omega arith),
       ),
       (r .run-here .ensures .result, r .run-here .ensures .work),
