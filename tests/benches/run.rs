@@ -54,7 +54,7 @@ fn compare(name: &str, job: &[u8]) {
     );
 }
 
-/// A job of depth g with one page and m searches that find nothing, dealt 16,384 turns in rounds.
+/// A job of depth g with one page and m searches that find nothing, whose turns are dealt in rounds.
 fn searches(depth: u32, operations: usize, turns: usize) -> Job {
     let file = ChargeFile {
         depth,
@@ -75,13 +75,36 @@ fn searches(depth: u32, operations: usize, turns: usize) -> Job {
     }
 }
 
-/// The cost of a turn: the time of a run with many turns less that of one with none.
-fn cost_a_turn(depth: u32, operations: usize) {
-    let full = searches(depth, operations, 3 * operations).to_bytes();
-    let none = searches(depth, operations, 0).to_bytes();
-    let ((with, _), (without, _)) = (medians(&full), medians(&none));
-    let cost = with.saturating_sub(without).as_secs_f64() * 1e9 / (3 * operations) as f64;
-    println!("cost of a turn, depth {depth}, {operations} operations: {cost:.1} ns");
+/// What a run with three turns for each search takes longer than one with none, for each turn and in nanoseconds. Whatever m is, as many
+/// turns are timed, so that few operations are measured as exactly as many.
+fn cost_a_turn(lent: &mut Lent, depth: u32, operations: usize) -> f64 {
+    let mut run = |turns: usize| {
+        let job = searches(depth, operations, turns).to_bytes();
+        let time = timed((20 * 256 / operations) as u32, || {
+            black_box(linked::run_only(black_box(&job), lent));
+        });
+        time.as_secs_f64() * 1e9
+    };
+    (run(3 * operations) - run(0)) / (3 * operations) as f64
+}
+
+/// The medians of the costs of a turn over depths and numbers of operations, all taken in turns, so that they meet the same machine.
+fn costs_of_turns() {
+    let cases = [0, 4, 8].map(|depth| [1, 16, 256].map(|operations| (depth, operations)));
+    let mut lent = Lent::new(21_048, 256, 24_576);
+    let mut costs = vec![Vec::new(); 9];
+    for _ in 0..101 {
+        for (case, &(depth, operations)) in cases.iter().flatten().enumerate() {
+            costs[case].push(cost_a_turn(&mut lent, depth, operations));
+        }
+    }
+    for (cost, (depth, operations)) in costs.iter_mut().zip(cases.iter().flatten()) {
+        cost.sort_by(f64::total_cmp);
+        println!(
+            "cost of a turn, depth {depth}, {operations} operations: {:.1} ns",
+            cost[50]
+        );
+    }
 }
 
 fn main() {
@@ -92,9 +115,5 @@ fn main() {
             &fs::read(folder.join(format!("{name}.job"))).expect("a vector"),
         );
     }
-    for depth in [0, 4, 8] {
-        for operations in [1, 16, 256] {
-            cost_a_turn(depth, operations);
-        }
-    }
+    costs_of_turns();
 }
