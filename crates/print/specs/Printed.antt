@@ -18,13 +18,17 @@ pub record Stands (x s t : List ℕ) (n : ℕ) : Type 0 where
   pub count : n ≡ length x
   pub bytes : t ≡ x ++ drop n s
 
--- for the bytes b, what is lent to the run, and the buffer before (s) and after (t): what is printed for the job's first fault, or for its run where
--- it has none; or there was no room, and nothing is written
-abbrev pub Prints : List ℕ → Lent → List ℕ → List ℕ → Printed → Type 0
-Prints b l s t (Text n) = (textSize ≤ length s) × Stands (printedBy (firstFault l b) b) s t n
-Prints b l s t NoRoom = (length s < textSize) × (t ≡ s)
+-- what is lent to the run: the result buffer s, a table of 256 rows, and the working memory w
+abbrev pub lentHere : List ℕ → List ℕ → Lent
+lentHere s w = record { result = length s; rows = 256; work = length w }
 
--- the lent result buffer before (s) and after (t), and the working memory (w, u): as the run leaves them, or, where nothing is run, as they were
-abbrev pub Leaves : List ℕ → Lent → List ℕ → List ℕ → List ℕ → List ℕ → Printed → Type 0
-Leaves b l s t w u (Text n) = (t ≡ bufferAfter l b s) × (u ≡ workAfter l b w)
-Leaves b l s t w u NoRoom = (t ≡ s) × (u ≡ w)
+-- The whole outcome of printing the bytes b, with the result buffer, the working memory and the text's buffer before (s, w, o) and after (t, u, p):
+-- the text tells the job's first fault, or its run where it has none, and the run leaves buffer and memory; or there was no room for every text, and
+-- nothing is run or written
+abbrev pub Prints : List ℕ → List ℕ → List ℕ → List ℕ → List ℕ → List ℕ → List ℕ → Printed → Type 0
+Prints b s t w u o p (Text n) =
+    (textSize ≤ length o)
+    × Stands (printedBy (firstFault (lentHere s w) b) b) o p n
+    × (t ≡ bufferAfter (lentHere s w) b s)
+    × (u ≡ workAfter (lentHere s w) b w)
+Prints b s t w u o p NoRoom = (length o < textSize) × (p ≡ o) × (t ≡ s) × (u ≡ w)

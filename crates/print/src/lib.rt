@@ -2,10 +2,9 @@
 use spec::Outcome;
 use turn::Row;
 ghost use mathlib.Core.Path.{_≡_};
-ghost use lib.ListN.{length};
 ghost use Rattle.run.specs.Call.{Settled};
 ghost use Rattle.print.specs.Table.{fullTable};
-ghost use Rattle.print.specs.Printed.{Prints, Leaves};
+ghost use Rattle.print.specs.Printed.{Prints};
 
 // The longest text has fewer bytes than this: a job line, and 256 lines for operations, for the log and for pages.
 const TEXT: usize = 85089;
@@ -34,7 +33,7 @@ fn run_here(job: &[u8], result: &mut [u8], work: &mut [u8]) -> Outcome
 
 // Runs the job and writes what is printed to `out`. Where `out` is too short nothing is run and nothing is written.
 pub fn print(job: &[u8], result: &mut [u8], work: &mut [u8], out: &mut [u8]) -> Printed
-    ensures { λ r. ⌜ (Prints (now (job .entry)) (record { result = length (now (result .entry)); rows = 256; work = length (now (work .entry)) }) (now (out .entry)) (now (out .exit)) r) × Leaves (now (job .entry)) (record { result = length (now (result .entry)); rows = 256; work = length (now (work .entry)) }) (now (result .entry)) (now (result .exit)) (now (work .entry)) (now (work .exit)) r ⌝ }
+    ensures { λ r. ⌜ Prints (now (job .entry)) (now (result .entry)) (now (result .exit)) (now (work .entry)) (now (work .exit)) (now (out .entry)) (now (out .exit)) r ⌝ }
 {
     if out.len() < TEXT {
         return Printed::NoRoom;

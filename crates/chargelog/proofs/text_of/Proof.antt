@@ -24,13 +24,13 @@ same-length c = search needs
 
 returns : tie.Need-returns
 returns c =
-    text-says _ _ _ _ _ (c .before .before .before .before .before .before .before .print .ensures .0) _ (c .before .p .given .1) (omega arith) (omega arith) (omega arith)
+    text-says _ _ _ _ _ _ _ _ (c .before .before .before .before .before .before .before .print .ensures) _ (c .before .p .given .1) (omega arith) (omega arith)
 
 same-length-2 : tie.Need-same-length-2
 same-length-2 c = search needs
 
 returns-2 : tie.Need-returns-2
-returns-2 c = absurd (no-room _ _ _ _ _ (c .before .before .before .before .before .before .print .ensures .0) (c .enum-told .given .1) (omega arith))
+returns-2 c = absurd (no-room _ _ _ _ _ _ _ _ (c .before .before .before .before .before .before .print .ensures) (c .enum-told .given .1) (omega arith))
 
 pub text-of-spec : {M : Type 1} → statement M
 text-of-spec =

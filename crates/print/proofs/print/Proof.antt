@@ -50,11 +50,10 @@ returns-2 : tie.Need-returns-2
 returns-2 c =
     let r = c .before .before .before .before .before .before .before .before .before .before .before .before in
     let known = r .before .before .before .before .before .before .before .shared-slice-known .given in (
-      (
-        omega arith,
-        ran-printed (r .run-here .ensures) (c .before .before .before .before .before .before .o .given .1) (are-bytes _ (λ k. omega (arith, known k))) (c .before .before .report .ensures) (omega arith),
-      ),
-      (r .run-here .ensures .result, r .run-here .ensures .work),
+      omega arith,
+      ran-printed (r .run-here .ensures) (c .before .before .before .before .before .before .o .given .1) (are-bytes _ (λ k. omega (arith, known k))) (c .before .before .report .ensures) (omega arith),
+      r .run-here .ensures .result,
+      r .run-here .ensures .work,
     )
 
 same-length-5 : tie.Need-same-length-5
@@ -66,11 +65,10 @@ same-length-6 c = search needs
 returns-3 : tie.Need-returns-3
 returns-3 c =
     let r = c .before .before .before .before .before .before .before .before .before .before .before in (
-      (
-        omega arith,
-        refused-printed (r .run-here .ensures) (c .before .before .before .before .before .o2 .given .1) (c .before .before .refused .ensures) (omega arith),
-      ),
-      (r .run-here .ensures .result, r .run-here .ensures .work),
+      omega arith,
+      refused-printed (r .run-here .ensures) (c .before .before .before .before .before .o2 .given .1) (c .before .before .refused .ensures) (omega arith),
+      r .run-here .ensures .result,
+      r .run-here .ensures .work,
     )
 
 pub print-spec : {M : Type 1} → statement M
