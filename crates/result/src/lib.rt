@@ -35,7 +35,7 @@ fn put_answer(result: &mut [u8], at: usize, row: Row)
     wire::put_u32(result, at + 4, row.charge);
 }
 
-// An operation's mark: 0 where there is no answer yet, else its moment and 1.
+// An operation's mark: 0 where there is no answer yet, else its moment plus 1.
 fn mark(row: Row) -> usize
     ensures { λ r. ⌜ r ≡ markNumber (row .code) (row .moment) ⌝ }
 {
