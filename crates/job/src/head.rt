@@ -43,7 +43,7 @@ pub fn wrong_version(job: &[u8]) -> Spot
     }
 }
 
-// 3 limit: "a count outside its limits, or U is 0 or above P"
+// 3 limit: "a count outside its limits, or U is 0 or above P". (The job is named by the contract alone: its counts are in h.)
 pub fn over_limit(job: &[u8], h: Header) -> Spot
     requires { ⌜ countsOf h ≡ headerOf (now job) ⌝ }
     ensures { λ r. ⌜ r ≡ spotOf (overLimit (now (job .entry))) ⌝ }
