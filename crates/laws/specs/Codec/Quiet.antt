@@ -5,7 +5,6 @@ use mathlib.Core.List.{List, [], _∷_, _++_, append-nil, append-assoc}
 use mathlib.Core.Option.{none, some}
 use native.Mathlib.Omega.{arith}
 use lib.ListN.{length, take, drop, replicate}
-use lib.Seq.{drop-at}
 use Rattle.spec.specs.Basics.{if, each}
 use Rattle.spec.specs.Bytes.{AreBytes}
 use Rattle.spec.specs.Job.{Job, headerSize, pageSize, tableOffset, opsOffset}
@@ -17,7 +16,7 @@ use Rattle.spec.specs.Result.{underWay, countUnder, resultOf, result, fileBytes
 use Rattle.spec.specs.Check.{jobFault}
 use Rattle.laws.specs.Codec.Pieces.{behind}
 use Rattle.laws.specs.Codec.Rows.{Rows, accepted-rows, counted}
-use Rattle.laws.specs.Codec.Sections.{length-header, jobFor}
+use Rattle.laws.specs.Codec.Sections.{jobFor}
 use Rattle.laws.specs.Codec.Forth.{directory-forth, table-forth, encode-decode}
 
 -- an operation not begun is not under way
@@ -59,11 +58,6 @@ module _ (b : List ℕ) (bytes : AreBytes b) (accepted : jobFault b ≡ none) wh
     where
       between : 2 * 2 ^ headerOf b .g + pageSize (headerOf b .c) * headerOf b .limit ≡ opsOffset (headerOf b) - headerSize
       between = omega arith
-
-  pub sections-kept : drop headerSize (encodeFile (fileOf b)) ≡ take (opsOffset (headerOf b) - headerSize) (drop headerSize b)
-  sections-kept =
-      let h = headerFor (fileOf b) 0 0 in
-      ap (drop headerSize) file-kept ∙ drop-at (headerBytes h) _ headerSize (length-header h)
 
   -- so the result's charge file, where there are no turns
   pub no-turns-bytes

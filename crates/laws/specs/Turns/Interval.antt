@@ -33,7 +33,7 @@ use Rattle.laws.specs.Turns.SplitPlan.{made, serves, stays-old, old-stay
 use Rattle.laws.specs.Turns.Does.{Tidy}
 use Rattle.laws.specs.Turns.Owned.{OwnsFrom}
 use Rattle.laws.specs.Turns.Settled.{Settled}
-use Rattle.laws.specs.Turns.Depths.{oldSplits, Lowest, plan-low, plan-deeper}
+use Rattle.laws.specs.Turns.Depths.{Lowest, plan-low, plan-deeper}
 
 -- the first entry of a page's range, of a directory of g bits, and the first one past it
 unfoldable pub startOf : ℕ → Page → ℕ
@@ -109,14 +109,6 @@ module _ (f : File) (op : Op) (x : ℕ) (fit : Fit f) (ok : PageOk (f .g) (f .c)
 
   same-start : startOf (f .g) old ≡ startOf (f .g) (pageAt f x)
   same-start = lowest-start (f .g) _ (pageAt f x) old old-deep (plan-low f op x)
-
-  -- the interval's first entry, by the splits that change the old page
-  pub interval-first
-      : lo ≡ startOf (f .g) (pageAt f x) + 2 ^ (f .g - (pageAt f x .depth + oldSplits (op .call) (newCount f op x) (pageAt f x .depth)))
-  interval-first =
-      end-start (f .g) old
-      ∙ ap (λ w. w + 2 ^ (f .g - old .depth)) same-start
-      ∙ ap (λ d. startOf (f .g) (pageAt f x) + 2 ^ (f .g - d)) (plan-low f op x .0)
 
   -- an entry in the interval is of the page, and goes to a new one; and an entry that goes is in the interval
   pub interval-begins : (e : ℕ) → lo ≤ e → e < hi → begins (f .g) (pageAt f x .depth) (pageAt f x .pattern) e ≡ true

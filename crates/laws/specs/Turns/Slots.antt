@@ -1,7 +1,7 @@
 -- The turn on which an entry was changed from a page can be looked up by the entry and the page's depth, in a table with one number for each:
 -- as long as the page's pattern begins the entry no later change has taken its place. So the moment of a search that found a stale record is one
 -- reading. The code keeps such a table, and writes one number on each turn that writes an entry.
-use Prim.Native.Nat.{ℕ, suc, _^_, _<_}
+use Prim.Native.Nat.{ℕ, _^_, _<_}
 use mathlib.Core.Path.{_≡_, refl, sym, ap, _∙_}
 use mathlib.Core.Logic.{⊎-elim}
 use mathlib.Core.List.{List}
@@ -19,12 +19,11 @@ use Rattle.spec.specs.declared.Stage.{Stage}
 use Rattle.spec.specs.declared.Stage.the-variants.{NotBegun, ReadPage, Reread, Lock, Held, Split, Done}
 use Rattle.spec.specs.Basics.{if}
 use Rattle.spec.specs.File.{File, pageAt, entryAt, findIn}
-use Rattle.spec.specs.Job.{Job, noOp}
+use Rattle.spec.specs.Job.{noOp}
 use Rattle.spec.specs.State.{State, Move}
 use Rattle.spec.specs.Turn.{homeOf, entryOf, changedAt, foundMoment, turn}
 use Rattle.spec.specs.Run.{stageOf, idle, act, step, start}
-use Rattle.spec.specs.Proper.{PageOk, FileOk}
-use Rattle.spec.specs.Claims.{stateAt}
+use Rattle.spec.specs.Proper.{PageOk}
 use Rattle.laws.specs.Tools.{if-case, if-true, if-false, and-left, and-right}
 use Rattle.laws.specs.Turns.Prefix.{fit-32, in-begins}
 use Rattle.laws.specs.Turns.Records.{found-in}
@@ -36,12 +35,10 @@ use Rattle.laws.specs.Turns.Does.{Tidy}
 use Rattle.laws.specs.Turns.Tidy.{i-does}
 use Rattle.laws.specs.Turns.Settled.{Settled}
 use Rattle.laws.specs.Turns.Reads.{reading}
-use Rattle.laws.specs.Turns.States.{who, stateAt-suc}
-use Rattle.laws.specs.Turns.Whole.{whole}
 use Rattle.laws.specs.Turns.Depths.{plan-most}
 use Rattle.laws.specs.Turns.Writes.{BeginsAt, i-writes}
 use Rattle.laws.specs.Turns.Followed.{Followed}
-use Rattle.laws.specs.Turns.Rising.{left, Left, Rising, left-case, rising}
+use Rattle.laws.specs.Turns.Rising.{left, Left, Rising, left-case}
 
 -- a table of turn numbers, by entry and depth
 abbrev pub Table : Type 0
@@ -158,18 +155,6 @@ slots-same slot slot' s ok r a h =
           let z = r .deeper e x k b in
           a e _ (r .within e x k) (omega (arith, ok (entryAt (s .file) e) .deep)) ∙ h .turn e x k b;
     }
-
--- the next turn of a job
-pub slots-suc
-    : (j : Job)
-    → FileOk (j .file)
-    → (t : ℕ) (slot : Table)
-    → t < length (j .turns)
-    → Slots slot (stateAt j t)
-    → Slots (slotAfter (stateAt j t) (stageOf (stateAt j t) (who j t)) slot) (stateAt j (suc t))
-slots-suc j ok t slot l h =
-    let w = whole j ok t (omega arith) in
-    rw (stateAt-suc j t l) (step-slots (j .ops) (stateAt j t) (who j t) slot (w .good) (w .tidy) (w .settled) (rising j ok t (omega arith)) h)
 
 -- a search that finds its call in page x
 module _ (ops : List Op) (s : State) (i x : ℕ) (r : Rec) (slot : Table)
