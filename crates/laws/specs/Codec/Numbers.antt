@@ -10,6 +10,7 @@ use Rattle.spec.specs.Basics.{Each, end, next}
 use Rattle.spec.specs.Bytes.{AreBytes, byte, word, long, two, four, parts, zeros}
 use Rattle.laws.specs.Codec.Tools.{eqb-yes, each-imp₂}
 use Rattle.laws.specs.Codec.Parts.{parts-size}
+use Rattle.laws.specs.Tools.{each-or}
 
 -- a number that fits comes back
 pub word-two : (n : ℕ) (post : List ℕ) → n < 65536 → word (two n ++ post) 0 ≡ n
@@ -23,9 +24,7 @@ long-four n post l = omega arith
 -- what is read of bytes fits
 pub byte-lt : (b : List ℕ) → AreBytes b → (p : ℕ) → byte b p < 256
 unfolding byte
-byte-lt [] end p = omega arith
-byte-lt (x ∷ b) (next h t) zero = h
-byte-lt (x ∷ b) (next h t) (suc p) = byte-lt b t p
+byte-lt b h p = each-or b p 0 (omega arith) h
 
 pub word-small : (b : List ℕ) (p : ℕ) → byte b p < 256 → byte b (p + 1) < 256 → word b p < 65536
 unfolding word

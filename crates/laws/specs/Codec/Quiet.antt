@@ -1,10 +1,10 @@
 -- With no turns the charge file in the result is the one that came in, byte for byte.
 use Prim.Native.Nat.{ℕ, zero, suc, _+_, _-_, _*_, _^_}
 use mathlib.Core.Path.{_≡_, refl, ap, _∙_}
-use mathlib.Core.List.{List, [], _∷_, _++_, append-nil, append-assoc}
+use mathlib.Core.List.{List, [], _++_, append-nil, append-assoc}
 use mathlib.Core.Option.{none, some}
 use native.Mathlib.Omega.{arith}
-use lib.ListN.{length, take, drop, replicate}
+use lib.ListN.{length, take, drop, replicate, drop-of-length-le}
 use Rattle.spec.specs.Basics.{if, each}
 use Rattle.spec.specs.Bytes.{AreBytes}
 use Rattle.spec.specs.Job.{Job, headerSize, pageSize, tableOffset, opsOffset}
@@ -35,8 +35,7 @@ unfolding result resultOf start if
 unmoved-file j e = rw (unmoved j e, none-under (length (j .ops)))
 
 no-member : {A : Type 0} (l : List A) → length l ≡ 0 → l ≡ []
-no-member [] e = refl
-no-member (x ∷ l) e = absurd (omega arith)
+no-member l e = drop-of-length-le l {i = 0} (omega arith)
 
 -- THE RESULT'S FILE IS THE ONE THAT CAME IN
 pub no-turns : (b : List ℕ) → headerOf b .turns ≡ 0 → result (jobOf b) .file ≡ some (jobOf b .file)

@@ -4,7 +4,7 @@ use Prim.Native.Nat.{ℕ, zero, suc, _<_}
 use mathlib.Core.Path.{_≡_, refl, ap}
 use mathlib.Core.Logic.{_↔_, Iff·rfl}
 use mathlib.Core.List.{List, [], _∷_}
-use mathlib.Core.Bool.{Bool, true, false, _||_}
+use mathlib.Core.Bool.{Bool, true, false, _||_, or-true}
 use mathlib.Core.Option.{Option, none, some}
 use native.Mathlib.Omega.{arith}
 use lib.ListN.{length, getD}
@@ -89,7 +89,3 @@ module _ {A : Type 0} where
   any-at f [] d k l e = absurd (omega arith)
   any-at f (x ∷ xs) d zero l e = rw (any-cons, e)
   any-at f (x ∷ xs) d (suc k) l e = rw (any-cons, any-at (λ q. f (suc q)) xs d k (omega arith) e) (or-true (f 0 x))
-    where
-      or-true : (t : Bool) → (t || true) ≡ true
-      or-true true = refl
-      or-true false = refl
