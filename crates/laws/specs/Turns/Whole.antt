@@ -1,9 +1,7 @@
 -- All that holds of every state of a run whose file is proper; and that an answer, once given, stays to the end.
 use Prim.Native.Nat.{ℕ, zero, suc, _+_, _-_, _≤_}
 use mathlib.Core.Path.{_≡_, refl, sym, ap, _∙_}
-use mathlib.Core.Logic.{Dec·and, by-cases}
 use native.Mathlib.Omega.{arith}
-use native.Mathlib.Decide.{decLt, decLe}
 use lib.ListN.{length, getD, length-replicate}
 use Rattle.spec.specs.Key.{index}
 use Rattle.spec.specs.File.{File, pageAt, entryAt}
@@ -29,6 +27,7 @@ use Rattle.laws.specs.Turns.Settled.{Settled, step-settled, start-settle
 use Rattle.laws.specs.Turns.History.{Past, step-past, start-past}
 use Rattle.laws.specs.Turns.Account.{Account, step-account}
 use Rattle.laws.specs.Turns.States.{hist, who, firstTurn, first-le, stateAt-suc, stateAt-end, step-rows, stateAt-zero, stateAt-now}
+use Rattle.laws.specs.Codec.InUse.{any-page}
 
 -- what holds of every state of a run
 pub record Whole (j : Job) (s : State) : Type 0 where
@@ -42,8 +41,7 @@ pub record Whole (j : Job) (s : State) : Type 0 where
 
 -- a proper file: all its pages, in use or not; its entries, by calls
 pub pages-of : (f : File) → FileOk f → (x : ℕ) → PageOk (f .g) (f .c) (pageAt f x)
-pages-of f ok x =
-    by-cases (Dec·and (decLt 0 x) (decLe x (f .used))) (λ h. ok .pages x h) (λ h. rw (ok .unused x h) (empty-ok (f .g) (f .c)))
+pages-of f ok = any-page f (PageOk (f .g) (f .c)) ok (empty-ok (f .g) (f .c)) (ok .pages)
 
 home-of : (f : File) → FileOk f → (k : ℕ) → In (pageAt f (entryAt f (index (f .g) k))) k
 home-of f ok k =
