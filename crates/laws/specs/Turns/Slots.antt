@@ -5,7 +5,7 @@ use Prim.Native.Nat.{ℕ, _^_, _<_}
 use mathlib.Core.Path.{_≡_, refl, sym, ap, _∙_}
 use mathlib.Core.Logic.{⊎-elim}
 use mathlib.Core.List.{List}
-use mathlib.Core.Bool.{Bool, true, false, false≢true, _&&_}
+use mathlib.Core.Bool.{true, false≢true, _&&_}
 use mathlib.Core.Option.{some}
 use native.Mathlib.Omega.{arith}
 use lib.ListN.{length, getD}
@@ -24,7 +24,7 @@ use Rattle.spec.specs.State.{State, Move}
 use Rattle.spec.specs.Turn.{homeOf, entryOf, changedAt, foundMoment, turn}
 use Rattle.spec.specs.Run.{stageOf, idle, act, step, start}
 use Rattle.spec.specs.Proper.{PageOk}
-use Rattle.laws.specs.Tools.{if-case, if-true, if-false, and-left, and-right}
+use Rattle.laws.specs.Tools.{if-case, if-true, and-left, and-right, if-both}
 use Rattle.laws.specs.Turns.Prefix.{fit-32, in-begins}
 use Rattle.laws.specs.Turns.Records.{found-in}
 use Rattle.laws.specs.Turns.Rows.{moves-row}
@@ -193,11 +193,7 @@ module _ (ops : List Op) (s : State) (i x : ℕ) (r : Rec) (slot : Table)
     -- so its moment is this turn's number, or the table's
     pub found-moment : foundMoment s op x ≡ if (eqb (entryOf f op) x) (s .now) (slot (homeOf f op) (pageAt f x .depth))
     unfolding foundMoment
-    found-moment = by (eqb (entryOf f op) x) refl
-      where
-        by : (t : Bool) → eqb (entryOf f op) x ≡ t → foundMoment s op x ≡ if (eqb (entryOf f op) x) (s .now) (slot (homeOf f op) (pageAt f x .depth))
-        by true e = if-true _ _ e ∙ sym (if-true _ _ e)
-        by false e = if-false _ _ e ∙ found-slot (eqb-false _ _ e) .0 ∙ sym (if-false _ _ e)
+    found-moment = if-both (λ u v. u ≡ v) (λ e. refl) (λ e. found-slot (eqb-false _ _ e) .0)
 
 -- the depth of a page that an entry is to leave is below the directory's
 pub entry-slot
