@@ -26,7 +26,7 @@ use Rattle.spec.specs.State.{State, Move, goLock}
 use Rattle.spec.specs.Turn.{homeOf, recOf, planOf, newCount, cleared, placed, decided, written, verified, heldTurn, turn}
 use Rattle.spec.specs.Run.{rowOf}
 use Rattle.spec.specs.Proper.{PageNo, In}
-use Rattle.laws.specs.Tools.{filter-le}
+use Rattle.laws.specs.Tools.{filter-le, if-both}
 use Rattle.laws.specs.Turns.Prefix.{fit-32}
 use Rattle.laws.specs.Turns.Shared.{allShare-least}
 use Rattle.laws.specs.Turns.Count.{split-count}
@@ -40,7 +40,7 @@ use Rattle.simulation.specs.RowBack.{told}
 use Rattle.simulation.specs.Steady.{Steady}
 use Rattle.simulation.specs.Moves.{Turned, locked, taken, paged}
 use Rattle.simulation.specs.Reads.{picture-of, page-used, named-is}
-use Rattle.simulation.specs.Searching.{if-both, goes-on, tells}
+use Rattle.simulation.specs.Searching.{goes-on, tells}
 
 module _ (ops : List Op) (s : State) (i : ℕ) (w : List ℕ) (st : Steady ops s) (h : Shown s w) where
   abbrev op : Op

@@ -1,7 +1,6 @@
 -- The turns of a search, and the first turn of every operation, in memory as in the machine.
 use mathlib.Core.Path.{_≡_, refl, sym}
 use mathlib.Core.List.{List}
-use mathlib.Core.Bool.{Bool, true, false}
 use mathlib.Core.Option.{Option, none, some}
 use Prim.Native.Nat.{ℕ}
 use lib.ListN.{getD}
@@ -9,7 +8,6 @@ use Rattle.spec.specs.declared.Rec.{Rec}
 use Rattle.spec.specs.declared.Op.{Op}
 use Rattle.spec.specs.declared.Stage.{Stage}
 use Rattle.spec.specs.declared.Stage.the-variants.{NotBegun, ReadPage, Reread, Done}
-use Rattle.spec.specs.Basics.{if}
 use Rattle.spec.specs.Code.{found, notFound}
 use Rattle.spec.specs.File.{pageAt, findIn}
 use Rattle.spec.specs.Job.{noOp}
@@ -18,6 +16,7 @@ use Rattle.spec.specs.Turn.{foundMoment, looked, reread, turn}
 use Rattle.spec.specs.Run.{rowOf, stageOf}
 use Rattle.spec.specs.Proper.{PageNo}
 use Rattle.laws.specs.Turns.Slots.{found-moment}
+use Rattle.laws.specs.Tools.{if-both}
 use Rattle.memory.specs.Memory.{turnIn}
 use Rattle.turn.specs.Rows.{rowImage, moved, answered}
 use Rattle.turn.specs.Steps.{Out, out, foundAt, memLooked, memReread, memTurn}
@@ -26,16 +25,6 @@ use Rattle.simulation.specs.RowBack.{told}
 use Rattle.simulation.specs.Steady.{Steady}
 use Rattle.simulation.specs.Moves.{Turned, calm}
 use Rattle.simulation.specs.Reads.{picture-of, home-is, page-used, named-is}
-
--- one test decides two things together
-pub if-both
-    : {A B : Type 0} (P : A → B → Type 0) {b : Bool} {x y : A} {u v : B}
-    → (b ≡ true → P x u)
-    → (b ≡ false → P y v)
-    → P (if b x y) (if b u v)
-unfolding if
-if-both P {b = true} p q = p refl
-if-both P {b = false} p q = q refl
 
 module _ (ops : List Op) (s : State) (i : ℕ) (w : List ℕ) (st : Steady ops s) (h : Shown s w) where
   abbrev op : Op

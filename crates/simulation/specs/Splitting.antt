@@ -2,7 +2,7 @@
 -- the directory or over the new pages is one number here: where the changed entries begin and end, and the last split that moves an entry.
 use mathlib.Core.Path.{_≡_, refl, sym}
 use mathlib.Core.List.{List}
-use mathlib.Core.Bool.{Bool, true, false}
+use mathlib.Core.Bool.{Bool, false}
 use Prim.Native.Nat.{ℕ, suc, _+_, _-_}
 use native.Mathlib.Numerals.{add-one}
 use native.Mathlib.Omega.{arith}
@@ -22,7 +22,7 @@ use Rattle.spec.specs.Split.{digit}
 use Rattle.spec.specs.State.{State, same, answer}
 use Rattle.spec.specs.Turn.{homeOf, planOf, goesTo, oldWritten, heldTurn, splitTurn, turn}
 use Rattle.spec.specs.Run.{rowOf, stageOf}
-use Rattle.laws.specs.Tools.{bool-same, first, rest, each-imp, each-or}
+use Rattle.laws.specs.Tools.{bool-same, first, rest, each-imp, each-or, if-ap}
 use Rattle.laws.specs.Turns.Good.{Fine, goes-span}
 use Rattle.laws.specs.Turns.Work.{Work}
 use Rattle.laws.specs.Turns.SplitPlan.{made}
@@ -42,9 +42,8 @@ use Rattle.simulation.specs.Reads.{picture-of, home-is, page-used, plan-
 
 -- a row that is answered where a test holds
 told-if : (r : Row) (b : Bool) (k c t : ℕ) → if b (answered r k c t) r ≡ told r (if b (answer k c t) same)
-unfolding told if
-told-if r true k c t = refl
-told-if r false k c t = refl
+unfolding told
+told-if r b k c t = if-ap (told r) b (answer k c t) same
 
 behind-is : (g : ℕ) (p : Page) → behind g p ≡ endOf g p
 unfolding behind endOf
