@@ -18,7 +18,7 @@ use Rattle.spec.specs.Result.{result}
 use Rattle.spec.specs.Check.{jobFault}
 use Rattle.spec.specs.Proper.{FileOk}
 use Rattle.spec.specs.Claims.{stateAt}
-use Rattle.laws.specs.Tools.{each-or, each-imp}
+use Rattle.laws.specs.Tools.{each-imp, each-or}
 use Rattle.laws.specs.Codec.Back.{RecFits}
 use Rattle.laws.specs.Codec.Exact.{accepted-proper}
 use Rattle.laws.specs.Codec.Proper.{RecordsFit, OpProper, JobProper}

@@ -3,7 +3,7 @@ use mathlib.Core.Path.{_≡_, refl}
 use mathlib.Core.Bool.{Bool, true, false}
 use mathlib.Core.List.{List, [], _∷_, _++_}
 use Rattle.spec.specs.Basics.{filter, Each}
-use Rattle.laws.specs.Tools.{if-true, if-false, first, rest, if-ap}
+use Rattle.laws.specs.Tools.{if-true, if-false, if-ap, first, rest}
 
 module _ {A : Type 0} where
   pub filter-take : (f : A → Bool) (x : A) (xs : List A) → f x ≡ true → filter f (x ∷ xs) ≡ x ∷ filter f xs

@@ -13,7 +13,7 @@ use Rattle.spec.specs.Basics.{Each, end, next}
 use Rattle.spec.specs.Code.{notYet}
 use Rattle.spec.specs.State.{Row}
 use Rattle.spec.specs.Result.{Line, isAt, linesAt, linesFrom}
-use Rattle.laws.specs.Tools.{if-case, if-true, if-false, each-append, each-at, each-imp, if-ap}
+use Rattle.laws.specs.Tools.{if-case, if-true, if-false, if-ap, each-append, each-at, each-imp}
 use Rattle.laws.specs.Codec.Tools.{each-imp₂ as each-both}
 use Rattle.laws.specs.Turns.Log.{Marked, marked, unmarked}
 use Rattle.result.specs.Lines.{line, seat, placed}

@@ -20,8 +20,8 @@ use Rattle.spec.specs.File.{File}
 use Rattle.spec.specs.Check.{workSize}
 use Rattle.spec.specs.Result.{toldOf, answerBytes, answersOffset, underWay, countUnder, resultOf, encodeResult}
 use Rattle.laws.specs.Tools.{if-case, if-both}
-use Rattle.laws.specs.Codec.Sizes.{length-answers, length-result}
 use Rattle.laws.specs.Codec.Parts.{each-snoc}
+use Rattle.laws.specs.Codec.Sizes.{length-answers, length-result}
 use Rattle.wire.specs.Over.{over}
 use Rattle.wire.specs.OverLaws.{length-over, over-none, over-over, over-parts, drop-over}
 use Rattle.wire.specs.Reads.{Apart, byte-over-other, word-put, word-over-other}

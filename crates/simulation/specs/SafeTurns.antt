@@ -127,7 +127,7 @@ module _ (ops : List Op) (s : State) (i : ℕ) (w : List ℕ) (st : Steady ops s
   step-safe few =
       record {
         ready =
-            record { size = h .long; depth = st .good .fit .depth; capacity = st .good .fit .capacity .1; pages = st .good .fit .most };
+            record { size = h .picture .long; depth = st .good .fit .depth; capacity = st .good .fit .capacity .1; pages = st .good .fit .most };
         few = few;
         at = rw (stage-back (rowOf s i)) (unfold stageOf in stage-safe (stageOf s i) refl (st .good .fine i) (st .tidy .work i) (st .full i));
       }

@@ -15,8 +15,8 @@ use Rattle.spec.specs.State.{State, same, answer, Move, go}
 use Rattle.spec.specs.Turn.{foundMoment, looked, reread, turn}
 use Rattle.spec.specs.Run.{rowOf, stageOf}
 use Rattle.spec.specs.Proper.{PageNo}
-use Rattle.laws.specs.Turns.Slots.{found-moment}
 use Rattle.laws.specs.Tools.{if-both}
+use Rattle.laws.specs.Turns.Slots.{found-moment}
 use Rattle.memory.specs.Memory.{turnIn}
 use Rattle.turn.specs.Rows.{rowImage, moved, answered}
 use Rattle.turn.specs.Steps.{Out, out, foundAt, memLooked, memReread, memTurn}
@@ -24,7 +24,7 @@ use Rattle.simulation.specs.Shown.{shapeOf, Shown}
 use Rattle.simulation.specs.RowBack.{told}
 use Rattle.simulation.specs.Steady.{Steady}
 use Rattle.simulation.specs.Moves.{Turned, calm}
-use Rattle.simulation.specs.Reads.{picture-of, home-is, page-used, named-is}
+use Rattle.simulation.specs.Reads.{home-is, page-used, named-is}
 
 module _ (ops : List Op) (s : State) (i : ℕ) (w : List ℕ) (st : Steady ops s) (h : Shown s w) where
   abbrev op : Op
@@ -39,13 +39,13 @@ module _ (ops : List Op) (s : State) (i : ℕ) (w : List ℕ) (st : Steady ops s
   -- a turn that changes nothing shared, and one that answers besides
   pub goes-on : (to : Stage) → Does (go to same) (out (moved (rowImage (rowOf s i)) to) w)
   unfolding told
-  goes-on to = calm ops s i w (st .good) (picture-of s w h) to same
+  goes-on to = calm ops s i w (st .good) (h .picture) to same
 
   pub tells
       : (to : Stage) (k c t : ℕ)
       → Does (go to (answer k c t)) (out (answered (moved (rowImage (rowOf s i)) to) k c t) w)
   unfolding told
-  tells to k c t = calm ops s i w (st .good) (picture-of s w h) to (answer k c t)
+  tells to k c t = calm ops s i w (st .good) (h .picture) to (answer k c t)
 
   pub on-begin : Does (turn s op NotBegun) (turned NotBegun)
   unfolding turn memTurn

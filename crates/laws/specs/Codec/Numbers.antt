@@ -8,9 +8,9 @@ use native.Mathlib.Nat.{add-zero, add-comm, add-mul-mod-self-left, mod-eq-of-lt,
 use lib.ListN.{length, take, drop, replicate}
 use Rattle.spec.specs.Basics.{Each, end, next}
 use Rattle.spec.specs.Bytes.{AreBytes, byte, word, long, two, four, parts, zeros}
+use Rattle.laws.specs.Tools.{each-or}
 use Rattle.laws.specs.Codec.Tools.{eqb-yes, each-imp₂}
 use Rattle.laws.specs.Codec.Parts.{parts-size}
-use Rattle.laws.specs.Tools.{each-or}
 
 -- a number that fits comes back
 pub word-two : (n : ℕ) (post : List ℕ) → n < 65536 → word (two n ++ post) 0 ≡ n

@@ -10,7 +10,7 @@ use Rattle.spec.specs.Key.{index, begins}
 use Rattle.spec.specs.File.{Page}
 use Rattle.spec.specs.Split.{newOwner}
 use Rattle.spec.specs.Proper.{In}
-use Rattle.laws.specs.Tools.{if-case, if-true, first, rest, each-at, if-both}
+use Rattle.laws.specs.Tools.{if-case, if-true, if-both, first, rest, each-at}
 use Rattle.laws.specs.Turns.Prefix.{begins-in, in-begins}
 
 -- whether an entry goes to a new page does not hang on the new pages' numbers

@@ -17,7 +17,7 @@ use Rattle.spec.specs.Code.{notYet}
 use Rattle.spec.specs.State.{Row, State, Answer, Move, blank, gone}
 use Rattle.spec.specs.Turn.{turn}
 use Rattle.spec.specs.Run.{rowAfter, rowOf, stageOf, idle, tick, act, step, steps}
-use Rattle.laws.specs.Tools.{if-case, replicate-all, within}
+use Rattle.laws.specs.Tools.{if-case, within, replicate-all}
 
 -- a move that writes neither a page nor an entry
 abbrev pub still : Stage → Answer → ℕ → ℕ → Bool → ℕ → Move

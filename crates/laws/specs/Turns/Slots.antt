@@ -24,7 +24,7 @@ use Rattle.spec.specs.State.{State, Move}
 use Rattle.spec.specs.Turn.{homeOf, entryOf, changedAt, foundMoment, turn}
 use Rattle.spec.specs.Run.{stageOf, idle, act, step, start}
 use Rattle.spec.specs.Proper.{PageOk}
-use Rattle.laws.specs.Tools.{if-case, if-true, and-left, and-right, if-both}
+use Rattle.laws.specs.Tools.{if-case, if-true, if-both, and-left, and-right}
 use Rattle.laws.specs.Turns.Prefix.{fit-32, in-begins}
 use Rattle.laws.specs.Turns.Records.{found-in}
 use Rattle.laws.specs.Turns.Rows.{moves-row}

@@ -11,6 +11,7 @@ use Rattle.spec.specs.State.{State, blank}
 use Rattle.spec.specs.Run.{rowOf, stageOf, step, start, run}
 use Rattle.spec.specs.Proper.{In, PageNo, PageOk, FileOk}
 use Rattle.spec.specs.Claims.{stateAt}
+use Rattle.laws.specs.Codec.InUse.{any-page}
 use Rattle.laws.specs.Turns.Prefix.{fit-32, index-in, begins-in, in-begins}
 use Rattle.laws.specs.Turns.Pages.{empty-ok}
 use Rattle.laws.specs.Turns.Rows.{first-row}
@@ -27,7 +28,6 @@ use Rattle.laws.specs.Turns.Settled.{Settled, step-settled, start-settle
 use Rattle.laws.specs.Turns.History.{Past, step-past, start-past}
 use Rattle.laws.specs.Turns.Account.{Account, step-account}
 use Rattle.laws.specs.Turns.States.{hist, who, firstTurn, first-le, stateAt-suc, stateAt-end, step-rows, stateAt-zero, stateAt-now}
-use Rattle.laws.specs.Codec.InUse.{any-page}
 
 -- what holds of every state of a run
 pub record Whole (j : Job) (s : State) : Type 0 where
