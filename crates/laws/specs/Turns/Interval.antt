@@ -42,23 +42,23 @@ startOf g p = p .pattern * 2 ^ (g - p .depth)
 unfoldable pub endOf : ℕ → Page → ℕ
 endOf g p = (p .pattern + 1) * 2 ^ (g - p .depth)
 
-end-start : (g : ℕ) (p : Page) → endOf g p ≡ startOf g p + 2 ^ (g - p .depth)
+pub end-start : (g : ℕ) (p : Page) → endOf g p ≡ startOf g p + 2 ^ (g - p .depth)
 unfolding startOf endOf
 end-start g p = omega arith
 
 -- a page begins exactly the entries of its range
-begins-range : (g : ℕ) (p : Page) (e : ℕ) → begins g (p .depth) (p .pattern) e ≡ true → (startOf g p ≤ e) × (e < endOf g p)
+pub begins-range : (g : ℕ) (p : Page) (e : ℕ) → begins g (p .depth) (p .pattern) e ≡ true → (startOf g p ≤ e) × (e < endOf g p)
 unfolding begins startOf endOf
 begins-range g p e h =
     let z : e / 2 ^ (g - p .depth) ≡ p .pattern = eqb-true _ _ h in
     let pos = pow-pos (g - p .depth) in
     (le-div-iff-mul-le {x = p .pattern} pos .0 (omega arith), div-lt-iff-lt-mul {y = p .pattern + 1} pos .0 (omega arith))
 
-range-begins : (g : ℕ) (p : Page) (e : ℕ) → startOf g p ≤ e → e < endOf g p → begins g (p .depth) (p .pattern) e ≡ true
+pub range-begins : (g : ℕ) (p : Page) (e : ℕ) → startOf g p ≤ e → e < endOf g p → begins g (p .depth) (p .pattern) e ≡ true
 unfolding begins startOf endOf
 range-begins g p e l u = eq-eqb _ _ (div-eq-of-lt-le (2 ^ (g - p .depth)) l u)
 
-end-le : (g : ℕ) (p : Page) → p .depth ≤ g → p .pattern < 2 ^ p .depth → endOf g p ≤ 2 ^ g
+pub end-le : (g : ℕ) (p : Page) → p .depth ≤ g → p .pattern < 2 ^ p .depth → endOf g p ≤ 2 ^ g
 unfolding endOf
 end-le g p d s =
     let e : p .depth + (g - p .depth) ≡ g = omega arith in
