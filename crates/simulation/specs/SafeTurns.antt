@@ -122,7 +122,7 @@ module _ (ops : List Op) (s : State) (i : ℕ) (w : List ℕ) (st : Steady ops s
   stage-safe (Split x b n q) e fi k u = split-safe x b n q fi k u
   stage-safe Done e fi k u = tt
 
-  pub step-safe : rowOf s i .used < 65535 → Safe sh op (rowImage (rowOf s i)) w
+  step-safe : rowOf s i .used < 65535 → Safe sh op (rowImage (rowOf s i)) w
   unfolding rowImage
   step-safe few =
       record {

@@ -103,7 +103,7 @@ module _ (ops : List Op) (s : State) (i : ℕ) (w : List ℕ) (st : Steady ops s
       }
 
   -- so a turn in memory is the machine's step
-  pub step-meets : Steady ops (step ops s i) → Meets (step ops s i) i (memStep (shapeOf (s .file)) op (s .now) r w)
+  step-meets : Steady ops (step ops s i) → Meets (step ops s i) i (memStep (shapeOf (s .file)) op (s .now) r w)
   unfolding memStep stageOf
   step-meets after = rw (stage-back (rowOf s i)) (by (idle (s .locks) (stageOf s i)) refl)
     where

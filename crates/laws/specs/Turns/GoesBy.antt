@@ -219,7 +219,7 @@ lastSplit f op x e = lastOne (f .g) (op .call) e (newCount f op x) (pageAt f x .
 
 module _ (f : File) (op : Op) (x : ℕ) (fit : Fit f) (ok : PageOk (f .g) (f .c) (pageAt f x)) (pl : Plan f op x) where
   -- where an entry that the page's pattern begins goes
-  pub goes-by
+  goes-by
       : (b e : ℕ)
       → e < 2 ^ f .g
       → begins (f .g) (pageAt f x .depth) (pageAt f x .pattern) e ≡ true

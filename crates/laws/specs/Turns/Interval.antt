@@ -104,7 +104,7 @@ module _ (f : File) (op : Op) (x : ℕ) (fit : Fit f) (ok : PageOk (f .g) (f .c)
   pub interval-lt : 0 < newCount f op x → lo < hi
   interval-lt h = lowest-end (f .g) _ (pageAt f x) old old-deep (plan-low f op x) (first (plan-deeper f op x h))
 
-  pub interval-end : hi ≤ 2 ^ f .g
+  interval-end : hi ≤ 2 ^ f .g
   interval-end = end-le (f .g) (pageAt f x) (ok .deep) (ok .small)
 
   same-start : startOf (f .g) old ≡ startOf (f .g) (pageAt f x)
@@ -114,7 +114,7 @@ module _ (f : File) (op : Op) (x : ℕ) (fit : Fit f) (ok : PageOk (f .g) (f .c)
   pub interval-begins : (e : ℕ) → lo ≤ e → e < hi → begins (f .g) (pageAt f x .depth) (pageAt f x .pattern) e ≡ true
   interval-begins e l u = range-begins (f .g) (pageAt f x) e (omega (arith, end-start (f .g) old, same-start)) u
 
-  pub interval-in : (k : ℕ) → lo ≤ index (f .g) k → index (f .g) k < hi → In (pageAt f x) k
+  interval-in : (k : ℕ) → lo ≤ index (f .g) k → index (f .g) k < hi → In (pageAt f x) k
   interval-in k l u = begins-in (f .g) (pageAt f x) k (ok .deep) (fit-32 f fit) (interval-begins _ l u)
 
   call-goes : (b k : ℕ) → lo ≤ index (f .g) k → index (f .g) k < hi → goesTo f op x b (index (f .g) k) ≡ 0 → ⊥
@@ -170,7 +170,7 @@ module _ (f : File) (op : Op) (x : ℕ) (fit : Fit f) (ok : PageOk (f .g) (f .c)
       (λ l. absurd (in-goes 0 k low l (h k from (let t = interval-end in omega arith) (named k from low l))))
       (λ l. sym (if-false _ _ (le-ltb k hi (omega arith)))))
 
-  pub entries-first
+  entries-first
       : (b : ℕ)
       → 0 < newCount f op x
       → ((e : ℕ) → lo ≤ e → e < hi → entryAt f e ≡ x)
@@ -178,7 +178,7 @@ module _ (f : File) (op : Op) (x : ℕ) (fit : Fit f) (ok : PageOk (f .g) (f .c)
   entries-first b h named =
       entries-at b 0 lo (omega arith) (omega arith) (λ e i l. l) (λ e i. named e) ∙ if-true _ _ (lt-ltb _ _ (interval-lt h))
 
-  pub entries-next
+  entries-next
       : (b j : ℕ)
       → lo ≤ j
       → ((e : ℕ) → j < e → e < hi → entryAt f e ≡ x)

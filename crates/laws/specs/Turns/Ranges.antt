@@ -42,7 +42,7 @@ abbrev pub Locked : List Bool → ℕ → Type 0
 Locked l p = getD l p false ≡ true
 
 -- a page that is locked has a lock
-pub locked-lt : (l : List Bool) (p : ℕ) → Locked l p → p < length l
+locked-lt : (l : List Bool) (p : ℕ) → Locked l p → p < length l
 locked-lt l p h = within (λ b. b ≡ true) l p false false≢true h
 
 -- the locks before and after a range of them is set
