@@ -34,6 +34,10 @@
 #include <stddef.h>
 #include <stdint.h>
 
+#if defined(_WIN32)
+#error "the library is built for the System V calling convention of x86-64"
+#endif
+
 #ifdef __cplusplus
 extern "C" {
 #endif
@@ -226,8 +230,10 @@ typedef struct chargefile_row {
     uint16_t moment; /* the turn number of its line in the log */
 } chargefile_row;
 
-/* Stops a build whose compiler lays the row out otherwise. */
+/* Stops a build whose compiler lays the row out otherwise, or for a machine that the library is
+ * not built for. */
 typedef char chargefile_row_has_20_bytes[sizeof(chargefile_row) == 20 ? 1 : -1];
+typedef char chargefile_size_has_8_bytes[sizeof(size_t) == 8 ? 1 : -1];
 
 /*
  * Checks the job_length bytes at `job`, refusals 1 to 10.

@@ -1,4 +1,4 @@
-//! The check of the largest job: the library's time as a ratio to the tests' own implementation's, both built for release, in one run.
+//! The check of two large jobs: the library's time as a ratio to the tests' own implementation's, both built for release, in one run.
 //! `cargo bench --offline --bench check`. No test: it prints and asserts nothing about time.
 
 #[path = "../tests/linked/mod.rs"]

@@ -12,7 +12,7 @@ use std::time::{Duration, Instant};
 
 use chargefile_tests::file::ChargeFile;
 use chargefile_tests::job::{Job, Kind, Operation};
-use chargefile_tests::page::Page;
+use chargefile_tests::page::{Page, Record};
 use chargefile_tests::Outcome;
 use linked::Lent;
 
@@ -54,56 +54,110 @@ fn compare(name: &str, job: &[u8]) {
     );
 }
 
-/// A job of depth g with one page and m searches that find nothing, whose turns are dealt in rounds.
-fn searches(depth: u32, operations: usize, turns: usize) -> Job {
-    let file = ChargeFile {
-        depth,
-        capacity: 8,
-        in_use: 1,
-        directory: vec![1; 1 << depth],
-        pages: vec![Page::default()],
-    };
-    let search = |i: usize| Operation {
-        kind: Kind::Search,
-        call: i as u32 * 2_654_435_761,
-        charge: 0,
-    };
+/// A directory of depth g, all of whose entries name page 1, which takes one record; with some operations and their turns.
+fn one_page(
+    depth: u32,
+    page: Page,
+    pages: usize,
+    operations: Vec<Operation>,
+    turns: Vec<usize>,
+) -> Job {
+    let mut table = vec![Page::default(); pages];
+    table[0] = page;
     Job {
-        file,
-        operations: (0..operations).map(search).collect(),
-        turns: (0..turns).map(|t| t % operations).collect(),
+        file: ChargeFile {
+            depth,
+            capacity: 1,
+            in_use: 1,
+            directory: vec![1; 1 << depth],
+            pages: table,
+        },
+        operations,
+        turns,
     }
 }
 
-/// What a run with three turns for each search takes longer than one with none, for each turn and in nanoseconds. Whatever m is, as many
-/// turns are timed, so that few operations are measured as exactly as many.
-fn cost_a_turn(lent: &mut Lent, depth: u32, operations: usize) -> f64 {
+/// m searches that find nothing, each with its three turns, dealt in rounds; or no turns.
+fn searches(depth: u32, m: usize, turns: usize) -> Job {
+    let search = |i: usize| Operation {
+        kind: Kind::Search,
+        call: (i as u32).wrapping_mul(2_654_435_761),
+        charge: 0,
+    };
+    let dealt = (0..turns).map(|t| t % m).collect();
+    one_page(
+        depth,
+        Page::default(),
+        1,
+        (0..m).map(search).collect(),
+        dealt,
+    )
+}
+
+/// An insert that splits a page of local depth 0 in two, so that half of the directory changes, and its turns; or no turns.
+fn split(depth: u32, turns: usize) -> Job {
+    let insert = Operation {
+        kind: Kind::Insert,
+        call: 1,
+        charge: 2,
+    };
+    let full = Page {
+        records: vec![Record { call: 0, charge: 3 }],
+        ..Page::default()
+    };
+    one_page(depth, full, 2, vec![insert], vec![0; turns])
+}
+
+/// What a run with its turns takes longer than one with none, for each turn and in nanoseconds. The turns' own checks, answers and lines of the
+/// log are in it.
+fn cost_a_turn(lent: &mut Lent, times: u32, turns: usize, job: impl Fn(usize) -> Job) -> f64 {
     let mut run = |turns: usize| {
-        let job = searches(depth, operations, turns).to_bytes();
-        let time = timed((20 * 256 / operations) as u32, || {
-            black_box(linked::run_only(black_box(&job), lent));
+        let bytes = job(turns).to_bytes();
+        let time = timed(times, || {
+            black_box(linked::run_only(black_box(&bytes), lent));
         });
         time.as_secs_f64() * 1e9
     };
-    (run(3 * operations) - run(0)) / (3 * operations) as f64
+    (run(turns) - run(0)) / turns as f64
 }
 
-/// The medians of the costs of a turn over depths and numbers of operations, all taken in turns, so that they meet the same machine.
+/// The costs of a search's turn over depths and numbers of operations, and of a splitting insert's turn over depths: medians, all taken in turns, so
+/// that they meet the same machine. At m = 1 three turns are a small part of a run, so that line is the least exact.
 fn costs_of_turns() {
-    let cases = [0, 4, 8].map(|depth| [1, 16, 256].map(|operations| (depth, operations)));
     let mut lent = Lent::new(21_048, 256, 24_576);
-    let mut costs = vec![Vec::new(); 9];
-    for _ in 0..101 {
-        for (case, &(depth, operations)) in cases.iter().flatten().enumerate() {
-            costs[case].push(cost_a_turn(&mut lent, depth, operations));
+    let mut costs: Vec<(String, Vec<f64>)> = Vec::new();
+    for round in 0..101 {
+        let mut line = 0;
+        let mut note = |name: String, cost: f64| {
+            if round == 0 {
+                costs.push((name, Vec::new()));
+            }
+            costs[line].1.push(cost);
+            line += 1;
+        };
+        for depth in [0, 4, 8] {
+            for m in [1, 16, 256] {
+                let cost = cost_a_turn(&mut lent, (5_120 / m) as u32, 3 * m, |turns| {
+                    searches(depth, m, turns)
+                });
+                note(
+                    format!("a search's turn, depth {depth}, {m} operations"),
+                    cost,
+                );
+            }
+        }
+        for depth in [1, 4, 8] {
+            let turns = 8 + (1 << (depth - 1));
+            let cost = cost_a_turn(&mut lent, 500, turns, |turns| split(depth, turns));
+            note(
+                format!("a splitting insert's turn, depth {depth}, {turns} turns"),
+                cost,
+            );
         }
     }
-    for (cost, (depth, operations)) in costs.iter_mut().zip(cases.iter().flatten()) {
+    for (name, cost) in &mut costs {
         cost.sort_by(f64::total_cmp);
-        println!(
-            "cost of a turn, depth {depth}, {operations} operations: {:.1} ns",
-            cost[50]
-        );
+        println!("cost of {name}: {:.1} ns", cost[50]);
     }
 }
 

@@ -22,16 +22,30 @@ void lend(const job *j)
     set.places_length = 1;
 }
 
+/* The job as it was handed over: no call may write to it. */
+static job given;
+
+static void expect_job_kept(const job *j)
+{
+    EXPECT(memcmp(given.bytes, j->bytes, sizeof given.bytes) == 0);
+}
+
 uint64_t run(const job *j)
 {
-    return chargefile_run(j->bytes, j->length, set.result, set.result_length, set.rows,
-                          set.rows_length, set.memory, set.memory_length, set.places,
-                          set.places_length);
+    given = *j;
+    uint64_t number = chargefile_run(j->bytes, j->length, set.result, set.result_length, set.rows,
+                                     set.rows_length, set.memory, set.memory_length, set.places,
+                                     set.places_length);
+    expect_job_kept(j);
+    return number;
 }
 
 uint64_t check(const job *j)
 {
-    return chargefile_check(j->bytes, j->length, set.places, set.places_length);
+    given = *j;
+    uint64_t number = chargefile_check(j->bytes, j->length, set.places, set.places_length);
+    expect_job_kept(j);
+    return number;
 }
 
 /* 1 where the bytes from `first` up to `end` all have one value. */

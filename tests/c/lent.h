@@ -26,7 +26,7 @@ extern lent set;
 /* The least that this job's run may be lent, and one number for the place. */
 void lend(const job *j);
 
-/* Calls the library with what is lent. */
+/* Calls the library with what is lent, and expects that the job's own bytes are kept. */
 uint64_t run(const job *j);
 uint64_t check(const job *j);
 

@@ -1,7 +1,7 @@
 //! Pseudo keys, directory indexes and shared leading bits ("The file").
 //!
-//! Everything here goes bit by bit. The library uses the machine's own bit
-//! reversal and zero counting; doing it the slow way keeps the two apart.
+//! Everything here goes bit by bit. The library counts the leading zeros of an
+//! exclusive-or and shifts; doing it the slow way keeps the two apart.
 
 /// How many bits a pseudo key has.
 pub const KEY_BITS: u32 = 32;

@@ -154,6 +154,6 @@ fn month_is_at_the_limits_and_ends() {
     let count = |code: Code| told.iter().filter(|told| **told == code).count();
     assert_eq!(count(Code::Stored), 128 + 4);
     assert_eq!(count(Code::NoDepth), 3);
-    assert_eq!(count(Code::Found) + count(Code::None), 64);
-    assert_eq!(count(Code::Deleted) + count(Code::Absent), 57);
+    assert_eq!((count(Code::Found), count(Code::None)), (53, 11));
+    assert_eq!((count(Code::Deleted), count(Code::Absent)), (55, 2));
 }

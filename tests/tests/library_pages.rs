@@ -139,7 +139,7 @@ fn splits_of_full_pages() {
         };
         let wanted = split(full, record, capacity);
         let bytes = page.to_bytes(capacity);
-        // SAFETY: the page is full and sound, and a new page is needed and possible
+        // SAFETY, here and for the two below: the page is full and sound, and a new page is needed and possible
         let count = unsafe { probe_split_count(bytes.as_ptr(), bytes.len(), near) };
         assert_eq!((count, wanted.new.len()), (n, n));
         let old = inside(&bytes, |p| unsafe {

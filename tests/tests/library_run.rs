@@ -2,6 +2,8 @@
 
 mod linked;
 
+use std::hint::black_box;
+
 use chargefile_tests::check::{result_room, WORKING_MEMORY};
 use chargefile_tests::damage::{fault, scribble};
 use chargefile_tests::job::Counts;
@@ -19,7 +21,9 @@ fn agree(job: &[u8], result: usize, rows: usize, memory: usize) -> Outcome {
     let wanted = run(job, result, rows, memory);
     let before = Lent::new(result, rows, memory);
     let mut after = before.clone();
-    let told = linked::run(job, &mut after);
+    let given = black_box(job.to_vec());
+    let told = linked::run(&given, &mut after);
+    assert!(black_box(given) == job, "the job's own bytes are written");
     match &wanted {
         Outcome::Refused { number, place } => {
             assert_eq!(
@@ -65,7 +69,7 @@ fn least(job: &[u8]) -> (usize, usize, usize) {
 
 #[test]
 fn random_jobs() {
-    let mut files = 0;
+    let (mut files, mut codes) = (0, [0usize; 9]);
     let whole = each_seed(JOBS, |seed| {
         let random = &mut Random::new(seed, "library run");
         let job = if seed % 16 == 0 {
@@ -86,8 +90,13 @@ fn random_jobs() {
             panic!("a job that meets no row is run");
         };
         files += usize::from(result[16..20] != [0; 4]);
+        for answer in result[24..].chunks(8).take(job.operations.len()) {
+            codes[usize::from(answer[0])] += 1;
+        }
     });
     if whole {
+        println!("answers by code: {codes:?}");
+        assert!(codes.iter().all(|count| *count > 1_000), "{codes:?}");
         assert!(files > 50_000, "results with a charge file: {files}");
     }
 }

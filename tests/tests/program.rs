@@ -1,27 +1,42 @@
-//! `chargelog` itself: every vector on its standard input, and what it prints.
+//! `chargelog` itself: every vector on its standard input, and what it prints; input in pieces, and input and output that fail.
 
-use std::fs;
+use std::fs::{self, File};
 use std::io::Write;
 use std::path::{Path, PathBuf};
 use std::process::{Command, Stdio};
+use std::thread;
+use std::time::Duration;
 
 fn folder() -> PathBuf {
     Path::new(env!("CARGO_MANIFEST_DIR")).join("vectors")
 }
 
-/// What `chargelog` prints for a job.
-fn chargelog(job: &[u8]) -> Vec<u8> {
-    let program = Path::new(env!("CARGO_MANIFEST_DIR")).join("../target/bin/chargelog");
-    let mut child = Command::new(program)
+/// `chargelog`, to be started.
+fn program() -> Command {
+    Command::new(Path::new(env!("CARGO_MANIFEST_DIR")).join("../target/bin/chargelog"))
+}
+
+/// What `chargelog` prints for a job that is handed over in pieces, with a pause between two.
+fn chargelog_in_pieces(pieces: &[&[u8]]) -> Vec<u8> {
+    let mut child = program()
         .stdin(Stdio::piped())
         .stdout(Stdio::piped())
         .spawn()
         .expect("chargelog, as rt builds it");
     let mut input = child.stdin.take().expect("its standard input");
-    // a program that has read enough may close its input before all is written
-    let _ = input.write_all(job);
+    for (i, piece) in pieces.iter().enumerate() {
+        if i > 0 {
+            thread::sleep(Duration::from_millis(50));
+        }
+        // a program that has read enough may close its input before all is written
+        let _ = input.write_all(piece);
+    }
     drop(input);
     child.wait_with_output().expect("what it printed").stdout
+}
+
+fn chargelog(job: &[u8]) -> Vec<u8> {
+    chargelog_in_pieces(&[job])
 }
 
 #[test]
@@ -51,4 +66,39 @@ fn a_job_that_goes_on_for_ever_is_refused() {
 #[test]
 fn no_input_is_refused() {
     assert_eq!(chargelog(b""), b"refused 1 0\n");
+}
+
+#[test]
+fn a_job_in_pieces_is_read_whole() {
+    let read = |ending: &str| fs::read(folder().join("marked-b").with_extension(ending));
+    let (job, text) = (read("job").expect("job E"), read("out").expect("its text"));
+    assert_eq!(
+        chargelog_in_pieces(&[&job[..1], &job[1..40], &job[40..]]),
+        text
+    );
+    assert_eq!(chargelog_in_pieces(&[&job, &[0]]), b"refused 4 28\n");
+}
+
+#[test]
+fn input_that_cannot_be_read_is_said() {
+    let output = program()
+        .stdin(File::open(folder()).expect("a folder, which cannot be read as a file"))
+        .output()
+        .expect("what it said");
+    assert_eq!(output.stdout, b"");
+    assert_eq!(output.stderr, b"chargelog: standard input cannot be read\n");
+}
+
+#[test]
+fn output_that_cannot_be_written_is_said() {
+    let full = File::options().write(true).open("/dev/full");
+    let output = program()
+        .stdin(File::open(folder().join("marked-b.job")).expect("job E"))
+        .stdout(full.expect("a device that takes nothing"))
+        .output()
+        .expect("what it said");
+    assert_eq!(
+        output.stderr,
+        b"chargelog: standard output cannot be written\n"
+    );
 }

@@ -1,4 +1,5 @@
-//! Every stored job prints what is stored beside it, to the byte.
+//! Every stored job prints what is stored beside it, to the byte. The jobs and texts came with the document and were not made here: `marked-` are
+//! its marked jobs, `good-` are run and `full-` are the largest; `fault-` have one fault each, by its name, and `refused-N-` have refusal N.
 
 use std::collections::BTreeSet;
 use std::fs;

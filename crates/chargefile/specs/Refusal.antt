@@ -5,8 +5,9 @@ use mathlib.Core.List.{List, [], _∷_}
 use Rattle.spec.specs.declared.Checked.{Checked}
 use Rattle.spec.specs.declared.Checked.the-variants.{Accepted, Refused}
 use Rattle.spec.specs.declared.Outcome.{Outcome}
-use Rattle.spec.specs.declared.Outcome.the-variants.{Ran, Refused as Turned}
+use Rattle.spec.specs.declared.Outcome.the-variants.{Ran, Refused as RefusedFor}
 
+-- of a check: the number, and the lent numbers afterwards, which an accepted job leaves as they were
 unfoldable pub numberFor : Checked → ℕ
 numberFor Accepted = 0
 numberFor (Refused n p) = n
@@ -23,8 +24,8 @@ placesAfter (Refused n p) s = placeIn s p
 -- of a run: the number, and the place or the length of the result
 unfoldable pub numberOf : Outcome → ℕ
 numberOf (Ran n) = 0
-numberOf (Turned n p) = n
+numberOf (RefusedFor n p) = n
 
 unfoldable pub placeOf : Outcome → ℕ
 placeOf (Ran n) = n
-placeOf (Turned n p) = p
+placeOf (RefusedFor n p) = p

@@ -52,7 +52,7 @@ fn show(job: &[u8]) {
 }
 
 // No job is longer than 53,280 bytes. One byte more already decides every refusal: the length is then not the total (refusal 4, place 28),
-// unless a lower row holds of the header, whatever follows. (laws: `Codec/Longest.front-decides`)
+// unless a lower row or a lower place holds of the header, whatever follows. (laws: `Codec/Longest.front-decides`)
 fn main() {
     let mut job = [0u8; 53281];
     let i = read_job(&mut job);

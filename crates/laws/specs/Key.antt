@@ -1,5 +1,5 @@
 -- The pseudo key: all that rests on its being the reversed bits of the call number. Its range, the range of an index, and that every
--- number of d bits is some call's index. No other file opens `pseudoKey` or `reversed`.
+-- number of d bits is some call's index. No other file of `laws` opens `pseudoKey` or `reversed`.
 use Prim.Native.Nat.{ℕ, zero, suc, _+_, _-_, _^_, _<_, _≤_, _*_, _/_, _%_}
 use mathlib.Core.Path.{_≡_, ap, _∙_}
 use mathlib.Core.Logic.{by-cases}

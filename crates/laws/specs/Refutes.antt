@@ -1,12 +1,12 @@
 -- A test that fails refutes the claim: where a field of `Explained` holds, the test of that name in Weighed is true.
 -- Each is shown from the field's statement alone. No law on turns or bytes is used, and no definition of the machine is opened, so it holds
--- whatever the machine is: a job on which one of the twelve tests is false is not explained (`passes`).
+-- whatever the machine is: a job on which one of the thirteen tests is false is not explained (`passes`).
 use Prim.Native.Nat.{ℕ, zero, suc, _<_, _≤_}
 use mathlib.Core.Path.{_≡_, refl, ap}
 use mathlib.Core.Logic.{_⊎_, inl, inr, _↔_}
 use mathlib.Core.List.{List, [], _∷_, map}
 use mathlib.Core.Bool.{Bool, true, false, not, _&&_, _||_, false≢true, or-true}
-use mathlib.Core.Option.{none}
+use mathlib.Core.Option.{Option, none, some}
 use native.Mathlib.Omega.{arith}
 use native.Mathlib.Decide.{ℕ-discrete}
 use lib.ListN.{length, getD}
@@ -19,17 +19,17 @@ use Rattle.spec.specs.declared.Stage.{Stage}
 use Rattle.spec.specs.declared.Stage.the-variants.{NotBegun, ReadPage, Reread, Lock, Held, Split, Done}
 use Rattle.spec.specs.Basics.{isSome, allOf, Has, here, there}
 use Rattle.spec.specs.Code.{notYet, noDepth, noPage}
-use Rattle.spec.specs.File.{findIn, contents}
+use Rattle.spec.specs.File.{Page, File, findIn, contents}
 use Rattle.spec.specs.Job.{Job, noOp}
 use Rattle.spec.specs.State.{State}
 use Rattle.spec.specs.Run.{stageOf, run}
-use Rattle.spec.specs.Result.{Line}
+use Rattle.spec.specs.Result.{Line, result}
 use Rattle.spec.specs.PlainList.{Reply, replyOf}
 use Rattle.spec.specs.Proper.{NoneTwice, empty, more}
 use Rattle.spec.specs.Claims.{stateAt, times, log, lineAt, opAt, answerOf, fed, FirstTurn, Ended, Waits, Before, Explained}
 use Rattle.laws.specs.Tools.{and-left, and-right}
-use Rattle.laws.specs.Weighed.{every, some-of, sameRec, sameReply, same, member, noneTwice, isDone, isSearch, waits, ended, first, precedes}
-use Rattle.laws.specs.Weighed.{answers, refused, once, noOther, sorted, held, listOnce, fileOnce, order, searches, progressAt, progress, finished}
+use Rattle.laws.specs.Weighed.{every, some-of, sameRec, sameReply, same, samePage, sameFile, isFile, member, noneTwice, isDone, isSearch, waits, ended, first, precedes}
+use Rattle.laws.specs.Weighed.{answers, refused, once, noOther, sorted, held, charged, listOnce, fileOnce, order, searches, progressAt, progress, finished}
 
 -- tests joined: when they come out true
 is-not : {a : Bool} → (a ≡ true → ⊥) → not a ≡ true
@@ -154,6 +154,25 @@ unfolding precedes
 precedes-true a b (inl l) = rw (lt-ltb _ _ l)
 precedes-true a b (inr h) = is-or {a = ltb (a .moment) (b .moment)} (λ e. is-and (eq-eqb _ _ (h .0)) (lt-ltb _ _ (h .1)))
 
+samePage-true : (p : Page) → samePage p p ≡ true
+unfolding samePage
+samePage-true p =
+    is-and (is-and (eq-eqb (p .depth) _ refl) (eq-eqb (p .pattern) _ refl)) (same-true sameRec sameRec-true {xs = p .records} refl)
+
+sameFile-true : (f : File) → sameFile f f ≡ true
+unfolding sameFile
+sameFile-true f =
+    is-and (is-and (is-and (is-and (is-and (one (f .g)) (one (f .c))) (one (f .limit))) (one (f .used))) (same-true eqb one {xs = f .directory} refl))
+    (same-true samePage samePage-true {xs = f .table} refl)
+  where
+    one : (n : ℕ) → eqb n n ≡ true
+    one n = eq-eqb n n refl
+
+isFile-true : (o : Option File) (h : File) → ((f : File) → o ≡ some f → f ≡ h) → isFile o h ≡ true
+unfolding isFile
+isFile-true none h e = refl
+isFile-true (some f) h e = rw (e f refl) (sameFile-true h)
+
 -- The fields, in the claim's order.
 pub answers-true : (j : Job) → fed j (length (log j)) .replies ≡ map (λ h. replyOf (answerOf j (h .op))) (log j) → answers j ≡ true
 unfolding answers
@@ -190,6 +209,10 @@ sorted-true j h = every-true _ _ (λ q l. every-true _ _ (λ p k. precedes-true 
 pub held-true : (j : Job) → ((r : Rec) → Has r (fed j (length (log j)) .list) ↔ Has r (contents (run j .file))) → held j ≡ true
 unfolding held
 held-true j h = is-and (all-true _ _ (λ r k. member-true (h r .0 k))) (all-true _ _ (λ r k. member-true (h r .1 k)))
+
+pub charged-true : (j : Job) → ((f : File) → result j .file ≡ some f → f ≡ run j .file) → charged j ≡ true
+unfolding charged
+charged-true j h = isFile-true (result j .file) (run j .file) h
 
 pub listOnce-true : (j : Job) → ((n : ℕ) → NoneTwice (fed j n .list)) → listOnce j ≡ true
 unfolding listOnce
@@ -276,6 +299,7 @@ pub passes
     × (noOther j ≡ true)
     × (sorted j ≡ true)
     × (held j ≡ true)
+    × (charged j ≡ true)
     × (listOnce j ≡ true)
     × (fileOnce j ≡ true)
     × (order j ≡ true)
@@ -289,6 +313,7 @@ passes j e = (
   noOther-true j (e .noOther),
   sorted-true j (e .sorted),
   held-true j (e .held),
+  charged-true j (e .charged),
   listOnce-true j (e .listOnce),
   fileOnce-true j (e .fileOnce),
   order-true j (e .order),

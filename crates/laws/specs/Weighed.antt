@@ -5,6 +5,7 @@ use Prim.Native.Nat.{ℕ, zero, suc}
 use mathlib.Core.Path.{_≡_, refl}
 use mathlib.Core.List.{List, [], _∷_, _++_, map}
 use mathlib.Core.Bool.{Bool, true, false, not, _&&_, _||_}
+use mathlib.Core.Option.{Option, none, some}
 use lib.ListN.{length, getD, replicate}
 use lib.Dec.{ltb, eqb}
 use Rattle.spec.specs.declared.Rec.{Rec}
@@ -15,12 +16,12 @@ use Rattle.spec.specs.declared.Stage.{Stage}
 use Rattle.spec.specs.declared.Stage.the-variants.{NotBegun, ReadPage, Reread, Lock, Held, Split, Done}
 use Rattle.spec.specs.Basics.{isSome, allOf}
 use Rattle.spec.specs.Code.{notYet, noDepth, noPage}
-use Rattle.spec.specs.File.{zeroPage, findIn, contents}
+use Rattle.spec.specs.File.{Page, File, zeroPage, findIn, contents}
 use Rattle.spec.specs.Job.{Job, noOp}
 use Rattle.spec.specs.Decode.{jobOf}
 use Rattle.spec.specs.State.{State}
 use Rattle.spec.specs.Run.{idle, stageOf, run}
-use Rattle.spec.specs.Result.{Line}
+use Rattle.spec.specs.Result.{Line, result}
 use Rattle.spec.specs.PlainList.{Reply, replyOf}
 use Rattle.spec.specs.Claims.{stateAt, times, log, lineAt, opAt, answerOf, fed}
 use Rattle.spec.specs.Worked.{jobB, jobInsert, jobG}
@@ -54,6 +55,23 @@ member r (a ∷ rest) = sameRec a r || member r rest
 unfoldable pub noneTwice : List Rec → Bool
 noneTwice [] = true
 noneTwice (r ∷ rs) = not (isSome (findIn rs (r .call))) && noneTwice rs
+
+unfoldable pub samePage : Page → Page → Bool
+samePage p q = eqb (p .depth) (q .depth) && eqb (p .pattern) (q .pattern) && same sameRec (p .records) (q .records)
+
+unfoldable pub sameFile : File → File → Bool
+sameFile f h =
+    eqb (f .g) (h .g)
+    && eqb (f .c) (h .c)
+    && eqb (f .limit) (h .limit)
+    && eqb (f .used) (h .used)
+    && same eqb (f .directory) (h .directory)
+    && same samePage (f .table) (h .table)
+
+-- a file, where there is one, is this one
+unfoldable pub isFile : Option File → File → Bool
+isFile none h = true
+isFile (some f) h = sameFile f h
 
 unfoldable pub isDone : Stage → Bool
 isDone NotBegun = false
@@ -110,6 +128,9 @@ held j =
     let list : List Rec = fed j (length (log j)) .list in
     let file : List Rec = contents (run j .file) in
     allOf (λ r. member r file) list && allOf (λ r. member r list) file
+
+unfoldable pub charged : Job → Bool
+charged j = isFile (result j .file) (run j .file)
 
 unfoldable pub listOnce : Job → Bool
 listOnce j = every (suc (length (log j))) (λ n. noneTwice (fed j n .list))
@@ -240,6 +261,10 @@ sorted-passes = refl
 held-passes : Passes held
 unfolding opened stateAt times log answerOf fed every sameRec sameReply same member noneTwice isDone isSearch waits ended first precedes held
 held-passes = refl
+
+charged-passes : Passes charged
+unfolding opened stateAt times log answerOf fed every sameRec sameReply same samePage sameFile isFile charged
+charged-passes = refl
 
 listOnce-passes : Passes listOnce
 unfolding opened stateAt times log answerOf fed every sameRec sameReply same member noneTwice isDone isSearch waits ended first precedes listOnce

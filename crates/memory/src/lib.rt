@@ -32,7 +32,7 @@ const LOCKS: usize = 512;
 
 const USED: usize = 1024;
 
-const TURNS: usize = 1026;
+pub const TURNS: usize = 1026;
 
 const PAGES: usize = 5122;
 

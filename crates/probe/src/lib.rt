@@ -1,4 +1,4 @@
-// The page functions under plain names, for the tests alone: each takes one page's bytes. What `requires` asks, the tests' wrappers test.
+// The page functions under plain names, for the tests alone: each takes one page's bytes. What `requires` asks, the tests see to.
 use spec::Found;
 use spec::Rec;
 ghost use mathlib.Core.Path.{_≡_};

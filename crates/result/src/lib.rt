@@ -20,9 +20,6 @@ const VERSION: usize = 1;
 
 const ANSWERS: usize = 24;
 
-// Where the marks stand in the working memory: nobody asks for the turns of changes any more.
-const MARKS: usize = 1026;
-
 // ---- answers
 
 // "Answer, 8 bytes: code, zero byte, turns used without waiting (2), charge (4)": a code is less than 256.
@@ -35,7 +32,7 @@ fn put_answer(result: &mut [u8], at: usize, row: Row)
     wire::put_u32(result, at + 4, row.charge);
 }
 
-// An operation's mark: 0 where there is no answer yet, else its moment and 1.
+// An operation's mark: 0 where there is no answer yet, else its moment plus 1.
 fn mark(row: Row) -> usize
     ensures { λ r. ⌜ r ≡ markNumber (row .code) (row .moment) ⌝ }
 {
@@ -58,13 +55,14 @@ fn begun(stage: u16) -> usize
     1
 }
 
-// Operation i is told: its answer in the result, and its mark in the working memory; 1 where it is begun but unfinished.
+// Operation i is told: its answer in the result, and its mark in the working memory; 1 where it is begun but unfinished. The marks stand where the
+// turns of changes stood, since nobody asks for those any more.
 pub fn tell(row: Row, i: usize, result: &mut [u8], work: &mut [u8]) -> usize
     requires { ⌜ (i < 256) × (32 + 8 * i ≤ length (now result)) × (workSize ≤ length (now work)) ⌝ }
     ensures { λ v. ⌜ (v ≡ begunNumber (row .stage)) × (now (result .exit) ≡ withAnswer row i (now (result .entry))) × (now (work .exit) ≡ withMark row i (now (work .entry))) ⌝ }
 {
     put_answer(result, ANSWERS + 8 * i, row);
-    wire::put_u16(work, MARKS + 2 * i, mark(row));
+    wire::put_u16(work, memory::TURNS + 2 * i, mark(row));
     begun(row.stage)
 }
 
@@ -107,7 +105,7 @@ fn write_log(work: &[u8], m: usize, result: &mut [u8], at: usize) -> usize
     let mut lines: usize = 0;
     let mut i: usize = 0;
     while i < m {
-        let mark = wire::u16_at(work, MARKS + 2 * i);
+        let mark = wire::u16_at(work, memory::TURNS + 2 * i);
         if mark == 0 {
             i += 1;
         } else {

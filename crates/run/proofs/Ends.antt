@@ -7,9 +7,10 @@ use Prim.Native.Nat.{ℕ, _≤_}
 use native.Mathlib.Omega.{arith}
 use lib.ListN.{length}
 use Rattle.spec.specs.declared.Spot.the-variants.{At, Nowhere}
+use Rattle.spec.specs.declared.Stage.the-variants.{NotBegun}
 use Rattle.spec.specs.declared.Checked.the-variants.{Accepted as AcceptedBy, Refused as RefusedBy}
 use Rattle.spec.specs.declared.Outcome.the-variants.{Ran as RanFor}
-use Rattle.spec.specs.Basics.{orElse}
+use Rattle.spec.specs.Basics.{if, orElse}
 use Rattle.spec.specs.Decode.{headerOf}
 use Rattle.spec.specs.Check.{Lent, Fault, workSize, resultSize, smallOutput, numbered, jobFault, firstFault}
 use Rattle.spec.specs.Cases.{spotOf, checkedOf}
@@ -19,10 +20,16 @@ use Rattle.laws.specs.Demand3.{demand3}
 use Rattle.header.specs.declared.Header.{Header}
 use Rattle.header.specs.Counts.{countsOf}
 use Rattle.turn.specs.declared.Row.{Row}
+use Rattle.turn.specs.Rows.{blankRow, stageIn}
 use Rattle.simulation.specs.RowBack.{blank-row}
 use Rattle.run.specs.Answer.{isAccepted, refusedBy}
 use Rattle.run.specs.Table.{Accepts}
 use Rattle.run.specs.Call.{lent, Accepted, Ran, Settled}
+
+-- the fixed value of a row says that its operation is not begun
+blank-stage : stageIn blankRow ≡ NotBegun
+unfolding stageIn if
+blank-stage = refl
 
 -- ---- what the rows of the refusal table tell
 
@@ -94,7 +101,7 @@ module _ {b s : List ℕ} {x : List Row} {w : List ℕ} (a : Accepted b s x w) w
         result = rw e (r .result);
         rows = rw e (r .rows);
         work = rw e (r .work);
-        fixed = sym blank-row;
+        fixed = (sym blank-row, blank-stage);
         explained = demand3 b;
       }
 
@@ -108,7 +115,7 @@ refused-by
 unfolding isAccepted refusedBy checkedOf outcome outcomeBy bufferAfter rowsAfter workAfter afterRun
 refused-by b s x w none q e = absurd (true-false e)
 refused-by b s x w (some f) q e =
-    record { answer = rw q; result = rw q; rows = rw q; work = rw q; fixed = sym blank-row; explained = demand3 b }
+    record { answer = rw q; result = rw q; rows = rw q; work = rw q; fixed = (sym blank-row, blank-stage); explained = demand3 b }
 
 pub refused
     : (b s : List ℕ) (x : List Row) (w : List ℕ)

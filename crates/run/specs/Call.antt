@@ -5,6 +5,7 @@ use mathlib.Core.Option.{none}
 use Prim.Native.Nat.{ℕ}
 use lib.ListN.{length, drop, replicate}
 use Rattle.spec.specs.declared.Outcome.{Outcome}
+use Rattle.spec.specs.declared.Stage.the-variants.{NotBegun}
 use Rattle.spec.specs.Decode.{jobOf}
 use Rattle.spec.specs.State.{blank}
 use Rattle.spec.specs.Bytes.{AreBytes}
@@ -12,7 +13,7 @@ use Rattle.spec.specs.Check.{Lent, jobFault, firstFault}
 use Rattle.spec.specs.Claims.{Explained}
 use Rattle.spec.specs.Outcome.{resultBytes, outcome, bufferAfter, rowsAfter, workAfter}
 use Rattle.turn.specs.declared.Row.{Row}
-use Rattle.turn.specs.Rows.{rowImage, blankRow}
+use Rattle.turn.specs.Rows.{rowImage, blankRow, stageIn}
 
 -- the lengths of what is lent
 abbrev pub lent : List ℕ → List Row → List ℕ → Lent
@@ -37,6 +38,6 @@ pub record Settled (b s t : List ℕ) (x y : List Row) (w u : List ℕ) (r : Out
   pub result : t ≡ bufferAfter (lent s x w) b s
   pub rows : y ≡ rowsAfter blankRow (lent s x w) b x
   pub work : u ≡ workAfter (lent s x w) b w
-  -- the rows' fixed value "stands for an operation not begun"
-  pub fixed : blankRow ≡ rowImage blank
+  -- the rows' fixed value "stands for an operation not begun": it is that row in numbers, and its numbers say so
+  pub fixed : (blankRow ≡ rowImage blank) × (stageIn blankRow ≡ NotBegun)
   pub explained : jobFault b ≡ none → Explained (jobOf b)

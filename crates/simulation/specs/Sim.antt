@@ -1,4 +1,4 @@
--- THE LAW of the turn crate: a turn in memory is a turn of the machine. A memory that shows the state before a turn of an accepted job shows,
+-- THE LAW of this crate: a turn in memory is a turn of the machine. A memory that shows the state before a turn of an accepted job shows,
 -- after the turn in memory, the state after it, and the operation's row is the machine's; no other row changes.
 use mathlib.Core.Path.{_≡_, refl, sym, ap, subst₂, _∙_}
 use mathlib.Core.List.{List}

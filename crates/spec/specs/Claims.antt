@@ -4,7 +4,7 @@ use mathlib.Core.Path.{_≡_}
 use mathlib.Core.Logic.{_⊎_, _↔_}
 use mathlib.Core.List.{List, [], _∷_, map}
 use mathlib.Core.Bool.{true}
-use mathlib.Core.Option.{none}
+use mathlib.Core.Option.{none, some}
 use lib.ListN.{length, getD, take}
 use lib.Dec.{eqb}
 use Rattle.spec.specs.declared.Rec.{Rec}
@@ -13,7 +13,7 @@ use Rattle.spec.specs.declared.Kind.the-variants.{Search}
 use Rattle.spec.specs.declared.Stage.the-variants.{Done}
 use Rattle.spec.specs.Basics.{if, Has}
 use Rattle.spec.specs.Code.{notYet, noDepth, noPage}
-use Rattle.spec.specs.File.{findIn, contents}
+use Rattle.spec.specs.File.{File, findIn, contents}
 use Rattle.spec.specs.Job.{Job, noOp}
 use Rattle.spec.specs.Decode.{jobOf}
 use Rattle.spec.specs.State.{State}
@@ -90,9 +90,11 @@ pub record Explained (j : Job) : Type 0 where
   pub sorted : (p q : ℕ) → p < q → q < length (log j) → Before (lineAt j p) (lineAt j q)
   -- "At the end a call with its charge is in it exactly when the file after the last turn .. holds them, in whatever order"; "no call twice"
   pub held : (r : Rec) → Has r (fed j (length (log j)) .list) ↔ Has r (contents (run j .file))
+  -- "a charge file in the result is that file"
+  pub charged : (f : File) → result j .file ≡ some f → f ≡ run j .file
   pub listOnce : (n : ℕ) → NoneTwice (fed j n .list)
   pub fileOnce : (t : ℕ) → t ≤ length (j .turns) → NoneTwice (contents (stateAt j t .file))
-  -- "real-time order is kept": of two operations in the log, one that ended before the other's first turn stands first
+  -- real-time order is kept: of two operations in the log, one that ended before the other's first turn stands first
   pub order
       : (p q t u : ℕ)
       → p < length (log j)
@@ -101,9 +103,9 @@ pub record Explained (j : Job) : Type 0 where
       → FirstTurn j (lineAt j q .op) u
       → t < u
       → p < q
-  -- "no search waits": at no time would a search's next turn wait
+  -- no search waits: at no time would a search's next turn wait
   pub searches : (t i : ℕ) → t ≤ length (j .turns) → getD (j .ops) i noOp .kind ≡ Search → Waits (stateAt j t) i → ⊥
-  -- "some unfinished operation can always use a turn": at every time, if one is unfinished
+  -- some unfinished operation can always use a turn: at every time, if one is unfinished
   pub progress
       : (t i : ℕ)
       → t ≤ length (j .turns)
@@ -113,7 +115,7 @@ pub record Explained (j : Job) : Type 0 where
   -- a finished operation has an answer
   pub finished : (i : ℕ) → i < length (j .ops) → stageOf (run j) i ≡ Done → answerOf j i .code ≡ notYet → ⊥
 
--- "A job that meets no row below is run"
+-- the bytes meet none of rows 1 to 10 (row 11 is about what is lent)
 abbrev pub Accepted : List ℕ → Type 0
 Accepted b = jobFault b ≡ none
 

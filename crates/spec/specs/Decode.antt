@@ -44,7 +44,7 @@ recordOf b = record { call = long b 0; charge = long b 4 }
 unfoldable pub pageOf : List ℕ → Page
 pageOf b = record { depth = byte b 0; pattern = word b 2; records = map recordOf (parts (byte b 1) recordSize (drop 4 b)) }
 
--- "kind (1 search, 2 insert, 3 delete), a zero byte, call number (4), charge (4)"
+-- "kind (1 search, 2 insert, 3 delete), a zero byte, call number (4), charge (4; ..)"
 unfoldable pub opOf : List ℕ → Op
 opOf b = record { kind = kindOf (byte b 0); call = long b 2; charge = long b 6 }
 

@@ -36,7 +36,7 @@ pageBytes c p =
     ++ each recordBytes (p .records)
     ++ replicate (recordSize * (c - length (p .records))) 0
 
--- "Operation, 10 bytes: kind .., a zero byte, call number (4), charge (4)"
+-- "Operation, 10 bytes: kind .., a zero byte, call number (4), charge (4; ..)"
 unfoldable pub opBytes : Op → List ℕ
 opBytes o = (kindNumber (o .kind) ∷ 0 ∷ []) ++ four (o .call) ++ four (o .charge)
 

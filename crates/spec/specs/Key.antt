@@ -1,5 +1,5 @@
 -- "The file": pseudo keys, the bits that they begin with, and directory indices.
--- Of the pseudo key itself nothing else is used than that it has 32 bits: two calls may share one.
+-- Of the pseudo key itself no more is used than that it has 32 bits and that every entry is some call's index: two calls may share a pseudo key.
 use Prim.Native.Nat.{ℕ, zero, suc, _+_, _-_, _*_, _/_, _%_, _^_}
 use mathlib.Core.Bool.{Bool}
 use lib.Dec.{eqb}

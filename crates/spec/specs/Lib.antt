@@ -9,7 +9,7 @@ pub mod Bytes
 pub mod Job
 pub mod Encode
 pub mod Decode
--- "Turns"
+-- "Turns" (and the codes of "The result", which they set)
 pub mod Split
 pub mod Code
 pub mod State

@@ -100,14 +100,13 @@ edits =
     ∷ edit 116 2 10 116  -- m
     ∷ edit 118 2 10 118
     ∷ edit 119 1 10 118
-    ∷ lending 147 2 24576 (set base 118 2) 10 118  -- 11 comes last
+    ∷ lending 143 1 24575 (set base 118 2) 10 118  -- 11 comes last
     ∷ lending 0 0 0 (set base 0 2) 2 0
     ∷ lending 143 2 24576 base 11 0  -- result buffer
     ∷ lending 143 1 0 base 11 0
     ∷ lending 144 1 24576 base 11 1  -- lent table
     ∷ lending 144 1 24575 base 11 1
     ∷ lending 144 2 24575 base 11 2  -- working memory
-    ∷ fine (lend 144 2 24576) base
     ∷ fine (lend 1000 9 30000) base
     ∷ []
 

@@ -39,7 +39,7 @@ unfoldable pub joined : Bool → Page → Grown → Grown
 joined true other own = record { old = other; news = own .old ∷ own .news }
 joined false other own = record { old = own .old; news = other ∷ own .news }
 
--- "split the page that would take the call ..; repeat until the call's page has under c records". At most n - 1 splits are made
+-- "split the page that would take the call ..; repeat until the call's page has under c records". With n for fuel, up to n - 1 splits make room for the call
 unfoldable pub grow : ℕ → ℕ → Page → Rec → Grown
 grow c zero p r = record { old = p; news = [] }
 grow c (suc n) p r =

@@ -1,4 +1,4 @@
--- "Jobs worked through": the bytes of the marked jobs and of their results, as the document has them.
+-- "Jobs worked through": the bytes of the marked jobs and of their results, worked out from the document.
 use Prim.Native.Nat.{ℕ}
 use mathlib.Core.List.{List, [], _∷_, _++_}
 use lib.ListN.{set, take, drop, replicate}

@@ -39,8 +39,9 @@ pub enum Part {
     UnlockNew,
 }
 
-// Where an operation stands, that is what its next turn does. `Held` has the page held; `Split` has the page held,
-// the number of pages in use before the split, and the number of its new pages.
+// Where an operation stands, that is what its next turn does. `ReadPage` and `Lock` have the page that it will read or lock; `Reread` has the page
+// that it read, and the turn of that reading; `Held` has the page held; `Split` has the page held, the number of pages in use before the split, and
+// the number of its new pages.
 pub enum Stage {
     NotBegun,
     ReadPage(u16),

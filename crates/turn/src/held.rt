@@ -58,7 +58,7 @@ fn stays(shape: Shape, op: Op, x: u16, work: &[u8]) -> bool
     entries::last_one(shape.depth, op.call, entries::home(shape, op), n, d) == 0
 }
 
-// The splits for an insert into page x take n new pages, when u are in use.
+// A split takes n new pages, when u are in use: they are locked, and from then on in use.
 fn take_pages(u: u16, n: u16, work: &mut [u8])
     requires { ⌜ (workSize ≤ length (now work)) × (u + n ≤ 256) ⌝ }
     ensures { λ _. ⌜ now (work .exit) ≡ withUsed (withLocks (now (work .entry)) (u + 1) n 1) (u + n) ⌝ }

@@ -1,5 +1,5 @@
 -- How many leading bits pseudo keys share. What a call shares with each of some records is the least that it shares with one of them, so
--- "all share their first g bits with the call" is: that least number is g or more.
+-- "all c records share their first g bits with the call" is: that least number is g or more.
 use Prim.Native.Nat.{ℕ, zero, suc, _-_, _^_, _<_, _≤_, _/_, _%_}
 use mathlib.Core.Path.{_≡_, refl, sym, ap, _∙_}
 use mathlib.Core.Logic.{by-cases}

@@ -4,7 +4,7 @@ use mathlib.Core.Path.{_≡_, refl, sym, ap, _∙_, subst}
 use mathlib.Core.Logic.{_⊎_, ⊎-elim, by-cases}
 use mathlib.Core.List.{List, map}
 use mathlib.Core.Bool.{Bool, true, true≢false, false≢true}
-use mathlib.Core.Option.{none}
+use mathlib.Core.Option.{Option, none, some, Option·none-ne-some}
 use native.Mathlib.Omega.{arith}
 use native.Mathlib.Decide.{ℕ-discrete, decLt}
 use lib.ListN.{length, getD}
@@ -22,6 +22,7 @@ use Rattle.spec.specs.Result.{Told, toldOf, logOf, resultOf, result}
 use Rattle.spec.specs.PlainList.{replyOf, Replay, replay}
 use Rattle.spec.specs.Proper.{NoneTwice, FileOk}
 use Rattle.spec.specs.Claims.{stateAt, FirstTurn, Ended, Waits, times, log, lineAt, opAt, answerOf, fed, Explained}
+use Rattle.laws.specs.Tools.{if-case}
 use Rattle.laws.specs.Turns.Records.{same-has}
 use Rattle.laws.specs.Turns.Rows.{stage-row, moves-row, code-row}
 use Rattle.laws.specs.Turns.Progress.{progress}
@@ -152,6 +153,12 @@ module _ (j : Job) (ok : FileOk (j .file)) where
         λ w. true≢false (sym (w .idles) ∙ p .1),
       )
 
+  the-file : (f : File) → result j .file ≡ some f → f ≡ run j .file
+  unfolding result resultOf
+  the-file =
+      if-case (λ (o : Option File). (f : File) → o ≡ some f → f ≡ run j .file)
+      (λ t f e. let z : f ≡ run j .file = cc in z) (λ t f e. absurd (Option·none-ne-some f e))
+
   all-refused
       : (p : ℕ)
       → p < length (log j)
@@ -174,6 +181,7 @@ module _ (j : Job) (ok : FileOk (j .file)) where
           same-has _ _ (list-once _) same-find r,
           same-has _ _ end-once (λ k. sym (same-find k)) r,
         );
+        charged = the-file;
         listOnce = list-once;
         fileOnce = λ t l. contents-twice _ (whole j ok t l .tidy .pages);
         order = in-order;
