@@ -18,7 +18,7 @@ reversed-lt zero k acc = omega arith
 reversed-lt (suc n) k acc =
     rw pow-suc (lt-of-lt-of-le (reversed-lt n (k / 2) (2 * acc + k % 2)) (double acc (k % 2) (2 ^ n) (omega arith)))
 
-pub key-lt : (call : ℕ) → pseudoKey call < 2 ^ 32
+key-lt : (call : ℕ) → pseudoKey call < 2 ^ 32
 unfolding pseudoKey
 key-lt call = reversed-lt 32 call 0
 

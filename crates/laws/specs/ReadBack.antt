@@ -1,15 +1,14 @@
 -- Read-back: the charge file in a result is accepted as a job, and says just the file after the last turn.
-use Prim.Native.Nat.{ℕ, suc, _^_, _<_, _≤_}
+use Prim.Native.Nat.{ℕ, _^_, _<_}
 use mathlib.Core.Path.{_≡_}
 use mathlib.Core.List.{List, []}
 use mathlib.Core.Option.{none, some}
 use native.Mathlib.Omega.{arith}
-use native.Mathlib.Decide.{decLe}
-use lib.ListN.{length, getD, List·getD-eq-default}
+use lib.ListN.{length, getD}
 use Rattle.spec.specs.declared.Op.{Op}
 use Rattle.spec.specs.Basics.{Each, end}
 use Rattle.spec.specs.Bytes.{AreBytes}
-use Rattle.spec.specs.File.{File, pageAt}
+use Rattle.spec.specs.File.{File}
 use Rattle.spec.specs.Job.{Job, noOp}
 use Rattle.spec.specs.Encode.{encodeFile}
 use Rattle.spec.specs.Decode.{jobOf}
@@ -19,7 +18,7 @@ use Rattle.spec.specs.Result.{result}
 use Rattle.spec.specs.Check.{jobFault}
 use Rattle.spec.specs.Proper.{FileOk}
 use Rattle.spec.specs.Claims.{stateAt}
-use Rattle.laws.specs.Tools.{each-at}
+use Rattle.laws.specs.Tools.{each-imp, each-or}
 use Rattle.laws.specs.Codec.Back.{RecFits}
 use Rattle.laws.specs.Codec.Exact.{accepted-proper}
 use Rattle.laws.specs.Codec.Proper.{RecordsFit, OpProper, JobProper}
@@ -28,22 +27,16 @@ use Rattle.laws.specs.Turns.Again.{final-ok, final-file}
 use Rattle.laws.specs.Turns.States.{stateAt-end}
 use Rattle.laws.specs.Turns.Narrow.{EveryRecord, run-every}
 use Rattle.laws.specs.Turns.Fields.{cut, cut-run}
+use Rattle.laws.specs.Codec.InUse.{any-page}
 
 -- calls and charges keep their 32 bits through a run: those of every page, and every charge that is answered
 page-records : (f : File) → FileOk f → RecordsFit f → EveryRecord RecFits f
-page-records f ok fits x = by (decLe 1 x) (decLe x (f .used))
-  where
-    by : Dec (1 ≤ x) → Dec (x ≤ f .used) → Each RecFits (pageAt f x .records)
-    by (yes l) (yes u) = fits x (l, u)
-    by (yes l) (no u) = rw (ok .unused x (λ n. u (n .1))) end
-    by (no l) u = rw (ok .unused x (λ n. l (n .0))) end
+page-records f ok fits = any-page f (λ p. Each RecFits (p .records)) ok end fits
 
 op-record : (ops : List Op) → Each OpProper ops → (i : ℕ) → RecFits (recOf (getD ops i noOp))
-op-record ops h i = by (decLe (suc i) (length ops))
-  where
-    by : Dec (suc i ≤ length ops) → RecFits (recOf (getD ops i noOp))
-    by (yes l) = let o = each-at ops i noOp l h .fits in record { call = o .call; charge = o .charge }
-    by (no l) = rw (List·getD-eq-default ops noOp {n = i} (omega arith)) (record { call = omega arith; charge = omega arith })
+op-record ops h i =
+    each-or {P = λ o. RecFits (recOf o)} ops i noOp (record { call = omega arith; charge = omega arith })
+    (each-imp (λ o p. record { call = p .fits .call; charge = p .fits .charge }) h)
 
 -- in the state before any turn t
 pub narrow-at : (j : Job) → JobProper j → (t : ℕ) → EveryRecord RecFits (stateAt j t .file) × ((i : ℕ) → rowOf (stateAt j t) i .charge < 2 ^ 32)

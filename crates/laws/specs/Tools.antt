@@ -2,7 +2,7 @@
 use Prim.Native.Nat.{ℕ, zero, suc, _<_, _≤_}
 use mathlib.Core.Path.{_≡_, refl, sym, ap, _∙_}
 use mathlib.Core.List.{List, [], _∷_, _++_}
-use mathlib.Core.Bool.{Bool, true, false, _&&_, true≢false, false≢true, Bool·beq}
+use mathlib.Core.Bool.{Bool, true, false, _&&_, true≢false, false≢true, Bool·beq, and-eq-true-iff}
 use native.Mathlib.Omega.{arith}
 use lib.ListN.{length, getD, set, replicate}
 use Rattle.spec.specs.Basics.{if, allOf, filter, Each, end, next}
@@ -23,13 +23,25 @@ unfolding if
 if-false {b = true} x y e = absurd (true≢false e)
 if-false {b = false} x y e = refl
 
+-- one test decides two things together
+pub if-both
+    : {A B : Type 0} (P : A → B → Type 0) {b : Bool} {x y : A} {u v : B}
+    → (b ≡ true → P x u)
+    → (b ≡ false → P y v)
+    → P (if b x y) (if b u v)
+unfolding if
+if-both P {b = true} p q = p refl
+if-both P {b = false} p q = q refl
+
+-- so what is done on both sides is done to what the test decides
+pub if-ap : {A B : Type 0} (f : A → B) (b : Bool) (x y : A) → if b (f x) (f y) ≡ f (if b x y)
+if-ap f b x y = if-both (λ u v. u ≡ f v) (λ e. refl) (λ e. refl)
+
 pub and-left : (a b : Bool) → (a && b) ≡ true → a ≡ true
-and-left true b e = refl
-and-left false b e = e
+and-left a b e = and-eq-true-iff a b .0 e .0
 
 pub and-right : (a b : Bool) → (a && b) ≡ true → b ≡ true
-and-right true b e = e
-and-right false b e = absurd (false≢true e)
+and-right a b e = and-eq-true-iff a b .0 e .1
 
 pub beq-refl : (b : Bool) → Bool·beq b b ≡ true
 beq-refl true = refl
@@ -74,6 +86,12 @@ module _ {A : Type 0} where
   each-or [] m d p h = p
   each-or (x ∷ xs) zero d p h = first h
   each-or (x ∷ xs) (suc m) d p h = each-or xs m d p (rest h)
+
+  -- a place is within the list, if what is read there is not so where there is none
+  pub within : (P : A → Type 0) (l : List A) (i : ℕ) (d : A) → (P d → ⊥) → P (getD l i d) → i < length l
+  within P [] i d n h = absurd (n h)
+  within P (x ∷ l) zero d n h = omega arith
+  within P (x ∷ l) (suc i) d n h = let k = within P l i d n h in omega arith
 
   -- every member, after one is set; every member of a list of one value
   pub set-all : (P : A → Type 0) (l : List A) (x : ℕ) (v d : A) → P v → ((y : ℕ) → P (getD l y d)) → (y : ℕ) → P (getD (set l x v) y d)

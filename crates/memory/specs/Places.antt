@@ -24,7 +24,7 @@ pub place-from : (c x : ℕ) → pagesAt ≤ placeOf c x
 unfolding placeOf
 place-from c x = omega arith
 
-pub place-fits : (c x : ℕ) → c ≤ 8 → x ≤ 256 → placeOf c x + pageSize c ≤ workSize
+place-fits : (c x : ℕ) → c ≤ 8 → x ≤ 256 → placeOf c x + pageSize c ≤ workSize
 unfolding placeOf
 place-fits c x h k = omega (arith, pages-fit c x h k)
 

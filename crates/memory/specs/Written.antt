@@ -1,6 +1,6 @@
 -- What each writer of the memory does: where it writes, with `Beside`, so that what lies beside reads as before; and what is then read at the place.
 use mathlib.Core.Path.{_≡_, refl, ap, _∙_}
-use mathlib.Core.Logic.{_⊎_, inl, inr, ⊎-elim}
+use mathlib.Core.Logic.{_⊎_, inl, inr, ⊎-elim, by-cases}
 use mathlib.Core.List.{List}
 use Prim.Native.Nat.{ℕ, _+_, _-_, _*_, _≤_, _<_}
 use native.Mathlib.Decide.{decLt}
@@ -23,11 +23,7 @@ use Rattle.memory.specs.Beside.{Beside, beside, entry-kept, lock-kept, t
 
 -- one of two different numbers is the lower
 different : (a b : ℕ) → (a ≡ b → ⊥) → (a < b) ⊎ (b < a)
-different a b n = by (decLt a b)
-  where
-    by : Dec (a < b) → (a < b) ⊎ (b < a)
-    by (yes h) = inl h
-    by (no h) = inr (omega arith)
+different a b n = by-cases (decLt a b) inl (λ h. inr (omega arith))
 
 -- ---- an entry
 

@@ -59,7 +59,7 @@ owns s i (suc n) b =
     let more = over-over (recordBytes (recordAt s i)) (each recordBytes (recordsFrom s (suc i) n)) s (pageSize i) (pageSize (suc i)) (omega (arith, length-record (recordAt s i))) in
     rw (records-cons s i n) (sym more ∙ rw (own s i b) (owns s (suc i) n b))
 
-pub over-records : (s : List ℕ) → ((k : ℕ) → byte s k < 256) → over s 4 (each recordBytes (pageOf s .records)) ≡ s
+over-records : (s : List ℕ) → ((k : ℕ) → byte s k < 256) → over s 4 (each recordBytes (pageOf s .records)) ≡ s
 over-records s b = rw (records-all s) (owns s 0 (byte s 1) b)
 
 -- ---- closed: the page's image

@@ -21,7 +21,7 @@ use Rattle.page.specs.View.{recordAt, recordsFrom, records-all, records-
 use Rattle.page.specs.Room.{room, Sound}
 use Rattle.page.specs.Image.{closed}
 use Rattle.page.specs.Keep.{Kept}
-use Rattle.page.specs.Lists.{filter-nil, filter-take, filter-skip, filter-snoc}
+use Rattle.page.specs.Lists.{filter-nil, filter-take, filter-skip, filter-join}
 use Rattle.page.specs.ImageLaws.{over-more, record-behind, closed-image}
 
 pub kept-start : (f : Rec → Bool) (s : List ℕ) → Kept f s s 0 0
@@ -42,7 +42,7 @@ module _ {f : Rec → Bool} {s t : List ℕ} {m j : ℕ} (k : Kept f s t m j) wh
       ap (λ (l : List ℕ). recordAt l j) (k .bytes) ∙ record-behind s (each recordBytes x) j (omega (arith, length-records x, k .many, kept-few))
 
   next : filter f (recordsFrom s 0 (j + 1)) ≡ filter f (recordsFrom s 0 j) ++ filter f (recordAt s j ∷ [])
-  next = rw (add-one, records-snoc s 0 j, zero-add) (filter-snoc f (recordsFrom s 0 j) (recordAt s j))
+  next = rw (add-one, records-snoc s 0 j, zero-add) (filter-join f (recordsFrom s 0 j) (recordAt s j ∷ []))
 
   pub kept-skip : f (recordAt s j) ≡ false → Kept f s t m (j + 1)
   kept-skip e =

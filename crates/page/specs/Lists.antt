@@ -3,7 +3,7 @@ use mathlib.Core.Path.{_≡_, refl}
 use mathlib.Core.Bool.{Bool, true, false}
 use mathlib.Core.List.{List, [], _∷_, _++_}
 use Rattle.spec.specs.Basics.{filter, Each}
-use Rattle.laws.specs.Tools.{if-true, if-false, first, rest}
+use Rattle.laws.specs.Tools.{if-true, if-false, if-ap, first, rest}
 
 module _ {A : Type 0} where
   pub filter-take : (f : A → Bool) (x : A) (xs : List A) → f x ≡ true → filter f (x ∷ xs) ≡ x ∷ filter f xs
@@ -18,17 +18,10 @@ module _ {A : Type 0} where
   unfolding filter
   filter-nil f = refl
 
-  pub filter-snoc : (f : A → Bool) (xs : List A) (x : A) → filter f (xs ++ (x ∷ [])) ≡ filter f xs ++ filter f (x ∷ [])
-  filter-snoc f [] x = rw (filter-nil f)
-  filter-snoc f (y ∷ xs) x = two (f y) refl (filter-snoc f xs x)
-    where
-      two
-          : (t : Bool)
-          → f y ≡ t
-          → filter f (xs ++ (x ∷ [])) ≡ filter f xs ++ filter f (x ∷ [])
-          → filter f (y ∷ xs ++ (x ∷ [])) ≡ filter f (y ∷ xs) ++ filter f (x ∷ [])
-      two true e ih = rw (filter-take f y (xs ++ (x ∷ [])) e, filter-take f y xs e, ih)
-      two false e ih = rw (filter-skip f y (xs ++ (x ∷ [])) e, filter-skip f y xs e, ih)
+  pub filter-join : (f : A → Bool) (xs ys : List A) → filter f (xs ++ ys) ≡ filter f xs ++ filter f ys
+  unfolding filter
+  filter-join f [] ys = refl
+  filter-join f (x ∷ xs) ys = rw (filter-join f xs ys) (if-ap (λ l. l ++ filter f ys) (f x) (x ∷ filter f xs) (filter f xs))
 
   pub filter-same : (f g : A → Bool) (xs : List A) → Each (λ (x : A). f x ≡ g x) xs → filter f xs ≡ filter g xs
   unfolding filter

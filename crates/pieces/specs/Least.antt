@@ -7,11 +7,11 @@ use Rattle.spec.specs.declared.Rec.{Rec}
 use Rattle.spec.specs.Key.{pseudoKey, shared}
 use Rattle.spec.specs.Split.{leastShared}
 
-pub least-nil : (k : ℕ) → leastShared [] k ≡ 32
+least-nil : (k : ℕ) → leastShared [] k ≡ 32
 unfolding leastShared
 least-nil k = refl
 
-pub least-cons : (r : Rec) (rs : List Rec) (k : ℕ) → leastShared (r ∷ rs) k ≡ min (shared 32 (pseudoKey (r .call)) (pseudoKey k)) (leastShared rs k)
+least-cons : (r : Rec) (rs : List Rec) (k : ℕ) → leastShared (r ∷ rs) k ≡ min (shared 32 (pseudoKey (r .call)) (pseudoKey k)) (leastShared rs k)
 unfolding leastShared
 least-cons r rs k = refl
 

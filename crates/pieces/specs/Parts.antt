@@ -181,7 +181,7 @@ module _ {c : ℕ} {p : Page} {r : Rec} (o : Splits c p r) where
   unfolding made
   grow-old g h = ap (λ (t : Grown). t .old) (grow-all g h)
 
-  pub grow-news : (g : ℕ) → Enough g p r → grow c (suc g) p r .news ≡ map (cut p r) (newPieces (splitCount p (r .call)) (p .depth) (r .call))
+  grow-news : (g : ℕ) → Enough g p r → grow c (suc g) p r .news ≡ map (cut p r) (newPieces (splitCount p (r .call)) (p .depth) (r .call))
   unfolding made
   grow-news g h = ap (λ (t : Grown). t .news) (grow-all g h)
 

@@ -16,6 +16,7 @@ use Rattle.spec.specs.Check.{workSize}
 use Rattle.laws.specs.Codec.Numbers.{low, high, two-read}
 use Rattle.laws.specs.Codec.Pieces.{two-bytes}
 use Rattle.laws.specs.Codec.Sections.{length-header}
+use Rattle.laws.specs.Codec.Parts.{next-place}
 use Rattle.wire.specs.Over.{over}
 use Rattle.wire.specs.OverLaws.{over-over}
 use Rattle.wire.specs.Parts.{length-part}
@@ -53,13 +54,12 @@ stand
 unfolding each
 stand enc size d [] w h = rw (mul-zero size)
 stand enc size d (x ∷ xs) w h =
-    let z : size * suc (length xs) ≡ size + size * length xs = omega arith in
     let first : enc x ≡ take size w = rw (mul-zero size) at (h 0 (omega arith)) in
-    rw (z, take-add size (size * length xs) w, first)
+    rw (next-place size (length xs), take-add size (size * length xs) w, first)
     (ap (λ (l : List ℕ). take size w ++ l) (stand enc size d xs (drop size w) (λ j l. h (suc j) (omega arith) ∙ later j)))
   where
     later : (j : ℕ) → take size (drop (size * suc j) w) ≡ take size (drop (size * j) (drop size w))
-    later j = let z : size * suc j ≡ size + size * j = omega arith in rw (z, drop-drop (size * j) size w)
+    later j = rw (next-place size j, drop-drop (size * j) size w)
 
 -- two bytes are those of their number
 two-stands : (w : List ℕ) (p : ℕ) → ((k : ℕ) → byte w k < 256) → p + 2 ≤ length w → two (word w p) ≡ take 2 (drop p w)

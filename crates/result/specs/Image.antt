@@ -19,11 +19,11 @@ use Rattle.turn.specs.Rows.{stageNumbers, taskNumbers, partNumbers, rowImage}
 use Rattle.laws.specs.Tools.{if-case}
 use Rattle.result.specs.Marks.{markOf, markNumber, begunNumber, withAnswer, withMark, Tells}
 
-pub mark-image : (r : State-Row) (row : Row) → rowImage r ≡ row → markNumber (row .code) (row .moment) ≡ markOf r
+mark-image : (r : State-Row) (row : Row) → rowImage r ≡ row → markNumber (row .code) (row .moment) ≡ markOf r
 unfolding markOf rowImage
 mark-image r row e = rw (← e)
 
-pub answer-image
+answer-image
     : (r : State-Row) (row : Row)
     → rowImage r ≡ row
     → r .code < 256
@@ -60,7 +60,7 @@ begun-stage (Held x t) = begun-task x t
 begun-stage (Split x b n q) = begun-part x b n q
 begun-stage Done = refl
 
-pub begun-image : (r : State-Row) (row : Row) → rowImage r ≡ row → begunNumber (row .stage) ≡ digit (underWay (r .stage))
+begun-image : (r : State-Row) (row : Row) → rowImage r ≡ row → begunNumber (row .stage) ≡ digit (underWay (r .stage))
 unfolding rowImage
 begun-image r row e = rw (← e) (begun-stage (r .stage))
 

@@ -1,7 +1,7 @@
 -- The log of one operation more: its line goes behind the lines that are no later than its own, or there is none.
 use mathlib.Core.Path.{_≡_, refl, sym, _∙_}
 use mathlib.Core.Logic.{by-cases}
-use mathlib.Core.Bool.{Bool, true, false}
+use mathlib.Core.Bool.{true, false, not-eq-not}
 use mathlib.Core.List.{List, [], _∷_, _++_, append-assoc}
 use Prim.Native.Nat.{ℕ, zero, suc, _+_, _≤_, _<_}
 use native.Mathlib.Omega.{arith}
@@ -9,11 +9,11 @@ use native.Mathlib.Decide.{ℕ-discrete}
 use lib.ListN.{length, getD, length-append, length-take, length-drop, List·getD-append}
 use lib.Seq.{take-append-seam, drop-append-seam, getD-append-add, append-snoc}
 use borrow.Author.Tests.{le-leb, lt-leb}
-use Rattle.spec.specs.Basics.{if, Each, end, next}
+use Rattle.spec.specs.Basics.{Each, end, next}
 use Rattle.spec.specs.Code.{notYet}
 use Rattle.spec.specs.State.{Row}
 use Rattle.spec.specs.Result.{Line, isAt, linesAt, linesFrom}
-use Rattle.laws.specs.Tools.{if-case, if-true, if-false, each-append, each-at, each-imp}
+use Rattle.laws.specs.Tools.{if-case, if-true, if-false, if-ap, each-append, each-at, each-imp}
 use Rattle.laws.specs.Codec.Tools.{each-imp₂ as each-both}
 use Rattle.laws.specs.Turns.Log.{Marked, marked, unmarked}
 use Rattle.result.specs.Lines.{line, seat, placed}
@@ -21,32 +21,20 @@ use Rattle.result.specs.Lines.{line, seat, placed}
 -- ---- whether a row has a line at turn t
 
 hit : (t : ℕ) (r : Row) → Marked t r → isAt t r ≡ true
-hit t r m = by (isAt t r) refl
-  where
-    by : (b : Bool) → isAt t r ≡ b → isAt t r ≡ true
-    by true e = e
-    by false e = absurd (unmarked t r e m)
+hit t r m = not-eq-not {a = isAt t r} {b = true} .0 (λ e. unmarked t r e m)
 
 miss : (t : ℕ) (r : Row) → (Marked t r → ⊥) → isAt t r ≡ false
-miss t r m = by (isAt t r) refl
-  where
-    by : (b : Bool) → isAt t r ≡ b → isAt t r ≡ false
-    by true e = absurd (m (marked t r e))
-    by false e = e
+miss t r m = not-eq-not {a = isAt t r} {b = false} .0 (λ e. m (marked t r e))
 
 -- ---- the lines of one turn
-
-if-join : (b : Bool) (x : Line) (ls z : List Line) → if b (x ∷ (ls ++ z)) (ls ++ z) ≡ if b (x ∷ ls) ls ++ z
-unfolding if
-if-join true x ls z = refl
-if-join false x ls z = refl
 
 at-hit : (t : ℕ) (rs : List Row) (r : Row) (i : ℕ) → Marked t r → linesAt t (rs ++ (r ∷ [])) i ≡ linesAt t rs i ++ (line t (i + length rs) ∷ [])
 unfolding linesAt
 at-hit t [] r i m = let e : i + 0 ≡ i = omega arith in rw e (if-true _ _ (hit t r m))
 at-hit t (q ∷ rs) r i m =
     let e : i + suc (length rs) ≡ suc i + length rs = omega arith in
-    rw (e, at-hit t rs r (suc i) m) (if-join (isAt t q) (line t i) (linesAt t rs (suc i)) (line t (suc i + length rs) ∷ []))
+    let more : List Line = line t (suc i + length rs) ∷ [] in
+    rw (e, at-hit t rs r (suc i) m) (if-ap (λ ls. ls ++ more) (isAt t q) (line t i ∷ linesAt t rs (suc i)) (linesAt t rs (suc i)))
 
 at-miss : (t : ℕ) (rs : List Row) (r : Row) (i : ℕ) → (Marked t r → ⊥) → linesAt t (rs ++ (r ∷ [])) i ≡ linesAt t rs i
 unfolding linesAt

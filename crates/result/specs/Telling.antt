@@ -2,8 +2,8 @@
 use mathlib.Core.Path.{_≡_, refl, sym, ap, _∙_}
 use mathlib.Core.Logic.{inl, inr, by-cases}
 use mathlib.Core.Bool.{Bool, true, false}
-use mathlib.Core.List.{List, [], _∷_, _++_, map, append-assoc, append-nil}
-use Prim.Native.Nat.{ℕ, suc, _+_, _*_, _^_, _≤_, _<_}
+use mathlib.Core.List.{List, [], _∷_, _++_, map, map-append}
+use Prim.Native.Nat.{ℕ, _+_, _*_, _^_, _≤_, _<_}
 use native.Mathlib.Numerals.{add-one}
 use native.Mathlib.Decide.{ℕ-discrete}
 use native.Mathlib.Omega.{arith}
@@ -19,7 +19,8 @@ use Rattle.spec.specs.State.{Row, State, gone}
 use Rattle.spec.specs.File.{File}
 use Rattle.spec.specs.Check.{workSize}
 use Rattle.spec.specs.Result.{toldOf, answerBytes, answersOffset, underWay, countUnder, resultOf, encodeResult}
-use Rattle.laws.specs.Tools.{if-case}
+use Rattle.laws.specs.Tools.{if-case, if-both}
+use Rattle.laws.specs.Codec.Parts.{each-snoc}
 use Rattle.laws.specs.Codec.Sizes.{length-answers, length-result}
 use Rattle.wire.specs.Over.{over}
 use Rattle.wire.specs.OverLaws.{length-over, over-none, over-over, over-parts, drop-over}
@@ -57,11 +58,6 @@ none-told rs b w =
 
 -- ---- one operation more
 
-add-if : (t : Bool) (n d : ℕ) → if t (suc (n + d)) (n + d) ≡ if t (suc n) n + d
-unfolding if
-add-if true n d = omega arith
-add-if false n d = refl
-
 if-digit : (t : Bool) → if t 1 0 ≡ 0 + digit t
 unfolding if digit
 if-digit true = refl
@@ -70,12 +66,12 @@ if-digit false = refl
 under-more : (rs : List Row) (r : Row) → countUnder (rs ++ (r ∷ [])) ≡ countUnder rs + digit (underWay (r .stage))
 unfolding countUnder
 under-more [] r = if-digit (underWay (r .stage))
-under-more (q ∷ rs) r = rw (under-more rs r) (add-if (underWay (q .stage)) (countUnder rs) (digit (underWay (r .stage))))
+under-more (q ∷ rs) r =
+    let ih = under-more rs r in
+    if-both (λ m n. m ≡ n + digit (underWay (r .stage))) (λ e. omega arith) (λ e. ih)
 
 answers-more : (rs : List Row) (r : Row) → each answerBytes (map toldOf (rs ++ (r ∷ []))) ≡ each answerBytes (map toldOf rs) ++ answerBytes (toldOf r)
-unfolding each
-answers-more [] r = append-nil (answerBytes (toldOf r))
-answers-more (q ∷ rs) r = rw (answers-more rs r) (sym (append-assoc (answerBytes (toldOf q)) (each answerBytes (map toldOf rs)) (answerBytes (toldOf r))))
+answers-more rs r = rw map-append (each-snoc answerBytes (map toldOf rs) (toldOf r))
 
 length-told : (rs : List Row) → length (each answerBytes (map toldOf rs)) ≡ 8 * length rs
 length-told rs = length-answers (map toldOf rs) ∙ ap (λ (n : ℕ). 8 * n) (length-map rs toldOf)

@@ -82,14 +82,14 @@ module _ {b s : List ℕ} {x : List Row} {w : List ℕ} (a : Accepted b s x w) w
       pub tell-asks : (h .ops ≤ length (q .rows)) × (h .ops ≤ 256) × (24 + 8 * h .ops ≤ length s) × (workSize ≤ length (q .work))
       unfolding resultSize
       tell-asks =
-          (omega (arith, ops-are o, last-shown .room), heads o .limits .ops, omega (arith, enough a h e .0), last-shown .shown .long)
+          (omega (arith, ops-are o, last-shown .room), heads o .limits .ops, omega (arith, enough a h e .0), last-shown .shown .picture .long)
 
       module _ (n : Told) (d : n ≡ tellRows (q .rows) (h .ops) (told s (q .work) 0)) where
         -- `close`
         pub close-asks : Limits (countsOf h) × (resultSize (countsOf h) ≤ length (n .result)) × (workSize ≤ length (n .work))
         close-asks =
             let z = told-sizes o last-shown s (enough a h e .0) d in
-            (heads o .limits, omega (arith, z .0, enough a h e .0), omega (arith, z .1, last-shown .shown .long))
+            (heads o .limits, omega (arith, z .0, enough a h e .0), omega (arith, z .1, last-shown .shown .picture .long))
 
         -- all of it; y, t and u are the table, the result and the memory in the end
         pub all-ran

@@ -1,6 +1,7 @@
 -- A job's file in the memory, and a table of blank rows: what the first turn finds.
 use mathlib.Core.Path.{_≡_, sym, ap, _∙_}
 use mathlib.Core.List.{List, [], map}
+use mathlib.Core.Bool.{false}
 use Prim.Native.Nat.{ℕ, zero, suc, _-_, _*_, _^_, _≤_, _<_}
 use native.Mathlib.Omega.{arith}
 use native.Mathlib.Nat.{mul-le-mul-left}
@@ -26,7 +27,8 @@ use Rattle.memory.specs.Within.{Loads}
 use Rattle.memory.specs.Load.{loaded}
 use Rattle.memory.specs.LoadLaws.{loaded-size, loaded-entry, loaded-lock, loaded-used, loaded-part}
 use Rattle.turn.specs.Rows.{blankRow}
-use Rattle.simulation.specs.Begun.{Loaded, start-shown, start-row}
+use Rattle.simulation.specs.Shown.{Picture}
+use Rattle.simulation.specs.Begun.{no-lock, start-shown, start-row}
 use Rattle.reader.specs.Parts.{directoryIn, tableIn}
 use Rattle.reader.specs.PartLaws.{length-directory, length-table, entry-in, page-in}
 use Rattle.table.specs.Turns.{both}
@@ -84,7 +86,7 @@ module _ {h : Header} {b : List ℕ} (a : Accepts h b) where
         ∙ page-in (heads a) k m
         ∙ sym (page-bytes k m)
 
-    file-loaded : Loaded (jobOf b .file) u
+    file-loaded : Picture (jobOf b .file) (replicate (suc (jobOf b .file .limit)) false) u
     file-loaded =
         let q = heads a .limits in
         let o = loads-in (heads a) w l in
@@ -93,7 +95,7 @@ module _ {h : Header} {b : List ℕ} (a : Accepts h b) where
           entries = λ j n.
               let m : j < 2 ^ h .depth = rw (depth-is a) at n in
               loaded-entry o (h .used) j (omega (arith, length-directory (heads a))) ∙ entry-in (heads a) j m;
-          locks = λ x n. loaded-lock o (h .used) x (omega (arith, pages-are a, q .pages .1));
+          locks = λ x n. loaded-lock o (h .used) x (omega (arith, pages-are a, q .pages .1)) ∙ sym (no-lock (suc (jobOf b .file .limit)) x);
           used = loaded-used o (h .used) (omega (arith, q .used .1, q .pages .1)) ∙ sym (used-is a);
           pages = λ x n m. rw (capacity-is a) (page x n (rw (pages-are a) at m));
         }

@@ -83,7 +83,7 @@ module _ {h : Header} {b : List ℕ} (a : Accepts h b) where
       one-more : (i : ℕ) (q : Told) → i < h .ops → TellingBy i q → TellingBy (suc i) (tellRow (getD (o .rows) i blankRow) i q)
       unfolding tellRow rowOf
       one-more i q l t =
-          let w : workSize ≤ length (q .work) = omega (arith, shown .long, t .rest .size) in
+          let w : workSize ≤ length (q .work) = omega (arith, shown .picture .long, t .rest .size) in
           rw (add-one i) at
           (one-told (omega (arith, rows-are)) (omega (arith, heads a .limits .ops)) w (λ n. omega (arith, moment-past i n, turns-few)) t
           (tells (getD (s .rows) i gone) (getD (o .rows) i blankRow) i (q .result) (q .work) (row-is i l) (code-small i)))
@@ -104,9 +104,9 @@ module _ {h : Header} {b : List ℕ} (a : Accepts h b) where
           depth = deep;
           capacity = size;
           limit = many;
-          used = shown .used;
-          entries = λ j l. shown .entries j (rw deep l);
-          pages = λ y l k. rw size at (shown .pages y l (rw many k));
+          used = shown .picture .used;
+          entries = λ j l. shown .picture .entries j (rw deep l);
+          pages = λ y l k. rw size at (shown .picture .pages y l (rw many k));
           directory = f .size ∙ ap (λ (n : ℕ). 2 ^ n) deep;
           table = f .pages ∙ ap suc many;
         }
@@ -122,7 +122,7 @@ module _ {h : Header} {b : List ℕ} (a : Accepts h b) where
       unfolding resultSize rowOf
       is-ready =
           let l = heads a .limits in
-          ready s rows-are all (omega (arith, long)) (shown .long) (l .depth) (l .capacity .1) (l .pages .1) file (λ i k n. moment-past i n)
+          ready s rows-are all (omega (arith, long)) (shown .picture .long) (l .depth) (l .capacity .1) (l .pages .1) file (λ i k n. moment-past i n)
           (omega (arith, turns-few))
 
       -- what closing writes, of the buffer as it was before the answers were told

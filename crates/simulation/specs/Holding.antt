@@ -26,7 +26,7 @@ use Rattle.spec.specs.State.{State, Move, goLock}
 use Rattle.spec.specs.Turn.{homeOf, recOf, planOf, newCount, cleared, placed, decided, written, verified, heldTurn, turn}
 use Rattle.spec.specs.Run.{rowOf}
 use Rattle.spec.specs.Proper.{PageNo, In}
-use Rattle.laws.specs.Tools.{filter-le}
+use Rattle.laws.specs.Tools.{if-both, filter-le}
 use Rattle.laws.specs.Turns.Prefix.{fit-32}
 use Rattle.laws.specs.Turns.Shared.{allShare-least}
 use Rattle.laws.specs.Turns.Count.{split-count}
@@ -39,8 +39,8 @@ use Rattle.simulation.specs.Shown.{shapeOf, Shown}
 use Rattle.simulation.specs.RowBack.{told}
 use Rattle.simulation.specs.Steady.{Steady}
 use Rattle.simulation.specs.Moves.{Turned, locked, taken, paged}
-use Rattle.simulation.specs.Reads.{picture-of, page-used, named-is}
-use Rattle.simulation.specs.Searching.{if-both, goes-on, tells}
+use Rattle.simulation.specs.Reads.{page-used, named-is}
+use Rattle.simulation.specs.Searching.{goes-on, tells}
 
 module _ (ops : List Op) (s : State) (i : ℕ) (w : List ℕ) (st : Steady ops s) (h : Shown s w) where
   abbrev op : Op
@@ -59,12 +59,12 @@ module _ (ops : List Op) (s : State) (i : ℕ) (w : List ℕ) (st : Steady ops s
   pub on-lock : (x : ℕ) → PageNo (s .file) x → getD (s .locks) x false ≡ false → Does (turn s op (Lock x)) (turned (Lock x))
   unfolding turn memTurn memLock digit if
   on-lock x n e =
-      let z : lockIn w x ≡ 0 = h .locks x (omega (arith, st .good .fit .within)) ∙ ap digit e in
-      rw z (locked ops s i w (st .good) (picture-of s w h) (Held x Verify) x 1 true (omega (arith, st .good .fit .within)))
+      let z : lockIn w x ≡ 0 = h .picture .locks x (omega (arith, st .good .fit .within)) ∙ ap digit e in
+      rw z (locked ops s i w (st .good) (h .picture) (Held x Verify) x 1 true (omega (arith, st .good .fit .within)))
 
   unlocks : (x : ℕ) (to : Stage) → PageNo (s .file) x → Does (goLock to x 1 false 0) (out (moved r to) (withLocks w x 1 0))
   unfolding digit
-  unlocks x to n = locked ops s i w (st .good) (picture-of s w h) to x 1 false (omega (arith, st .good .fit .within))
+  unlocks x to n = locked ops s i w (st .good) (h .picture) to x 1 false (omega (arith, st .good .fit .within))
 
   on-verify : (x : ℕ) → Does (verified s op x) (memVerified (shapeOf (s .file)) op r w x)
   unfolding verified memVerified
@@ -80,7 +80,7 @@ module _ (ops : List Op) (s : State) (i : ℕ) (w : List ℕ) (st : Steady ops s
   on-placed x n e =
       if-both Does (λ a. goes-on ops s i w st h _)
       (λ a.
-      rw (allShare-least (s .file .g) (p .records) (op .call) (fit-32 (s .file) (st .good .fit)), h .used)
+      rw (allShare-least (s .file .g) (p .records) (op .call) (fit-32 (s .file) (st .good .fit)), h .picture .used)
       (if-both Does (λ b. tells ops s i w st h _ noDepth 0 (s .now))
       (λ b.
       rw (count a (allShare-least (s .file .g) (p .records) (op .call) (fit-32 (s .file) (st .good .fit)) ∙ b))
@@ -88,7 +88,7 @@ module _ (ops : List Op) (s : State) (i : ℕ) (w : List ℕ) (st : Steady ops s
       (λ c.
       rw add-one
       (let u = ltb-false (s .file .limit) (s .file .used + splitCount p (op .call)) c in
-      taken ops s i w (st .good) (picture-of s w h) _ (suc (s .file .used)) _ (omega arith) (omega arith)))))))
+      taken ops s i w (st .good) (h .picture) _ (suc (s .file .used)) _ (omega arith) (omega arith)))))))
     where
       p : Page
       p = pageAt (s .file) x
@@ -125,10 +125,10 @@ module _ (ops : List Op) (s : State) (i : ℕ) (w : List ℕ) (st : Steady ops s
   unfolding written memWritten told added cleared without
   on-write x Search e n t = goes-on ops s i w st h _
   on-write x Insert e n t =
-      paged ops s i w (st .good) (picture-of s w h) _ _ x _ (omega (arith, st .good .fit .within))
+      paged ops s i w (st .good) (h .picture) _ _ x _ (omega (arith, st .good .fit .within))
       (rw length-append (omega (arith, t .1 e .1)))
   on-write x Delete e n t =
-      paged ops s i w (st .good) (picture-of s w h) _ _ x _ (omega (arith, st .good .fit .within))
+      paged ops s i w (st .good) (h .picture) _ _ x _ (omega (arith, st .good .fit .within))
       (let l = filter-le (isNot (op .call)) (pageAt (s .file) x .records) in omega (arith, st .tidy .pages x .room))
 
   -- an operation that holds page x; the writing of a split's old page is given

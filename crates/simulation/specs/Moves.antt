@@ -25,8 +25,9 @@ use Rattle.memory.specs.Written.{turn-same, turn-other}
 use Rattle.turn.specs.declared.Row.{Row}
 use Rattle.turn.specs.Rows.{rowImage, moved}
 use Rattle.turn.specs.Steps.{Out, out}
+use Rattle.simulation.specs.Shown.{Picture}
 use Rattle.simulation.specs.RowBack.{told, row-moves}
-use Rattle.simulation.specs.Picture.{Picture, withUse, entry-256, picture-entry, picture-turn, picture-locks, picture-used, picture-page, entry-turns, locks-turns, used-turns, page-turns}
+use Rattle.simulation.specs.Picture.{withUse, entry-256, picture-entry, picture-turn, picture-locks, picture-used, picture-page, entry-turns, locks-turns, used-turns, page-turns}
 
 -- what a turn leaves in memory is what the move of operation i leaves; `slot` is the table of turns then
 pub record Turned (s : State) (i : ℕ) (slot : Table) (m : Move) (o : Out) : Type 0 where

@@ -1,5 +1,5 @@
--- What a working memory shows of a file and its locks, and how each update of the memory is an update of the file or the locks: an entry, a
--- range of locks, the pages in use, a page; and the turn of a change, which neither has.
+-- How each update of the memory is an update of the file or the locks that it shows: an entry, a range of locks, the pages in use, a page; and the
+-- turn of a change, which neither has.
 use mathlib.Core.Path.{_≡_, sym, ap, _∙_}
 use mathlib.Core.Logic.{_⊎_, inl, inr, by-cases}
 use mathlib.Core.List.{List}
@@ -22,13 +22,7 @@ use Rattle.memory.specs.Memory.{locksAt, usedAt, turnsAt, pagesAt, entryIn, wit
 use Rattle.memory.specs.Within.{Within}
 use Rattle.memory.specs.Beside.{Beside, entry-kept, lock-kept, used-kept, turn-kept, part-kept}
 use Rattle.memory.specs.Written.{entry-written, entry-same, entry-other, locks-written, lock-same, lock-other, used-written, used-same, turn-written, page-written, part-same, part-other}
-
-pub record Picture (f : File) (l : List Bool) (w : List ℕ) : Type 0 where
-  pub long : workSize ≤ length w
-  pub entries : (j : ℕ) → j < 2 ^ f .g → entryIn w j ≡ entryAt f j
-  pub locks : (x : ℕ) → x ≤ f .limit → lockIn w x ≡ digit (getD l x false)
-  pub used : usedIn w ≡ f .used
-  pub pages : (x : ℕ) → 1 ≤ x → x ≤ f .limit → partIn (f .c) w x ≡ pageBytes (f .c) (pageAt f x)
+use Rattle.simulation.specs.Shown.{Picture}
 
 -- an entry's number is below 256
 pub entry-256 : (f : File) → Fit f → (j : ℕ) → j < 2 ^ f .g → j < 256

@@ -14,11 +14,7 @@ use Rattle.laws.specs.Turns.Prefix.{index-in}
 use Rattle.memory.specs.Memory.{pageIn}
 use Rattle.turn.specs.Steps.{home, named, plan}
 use Rattle.simulation.specs.Shown.{shapeOf, Shown}
-use Rattle.simulation.specs.Picture.{Picture}
 use Rattle.simulation.specs.Steady.{Steady, page-fits}
-
-pub picture-of : (s : State) (w : List ℕ) → Shown s w → Picture (s .file) (s .locks) w
-picture-of s w h = record { long = h .long; entries = h .entries; locks = h .locks; used = h .used; pages = h .pages }
 
 pub home-is : (f : File) (op : Op) → home (shapeOf f) op ≡ homeOf f op
 unfolding home homeOf
@@ -27,7 +23,7 @@ home-is f op = refl
 module _ (ops : List Op) (s : State) (w : List ℕ) (st : Steady ops s) (h : Shown s w) where
   pub page-back : (x : ℕ) → 1 ≤ x → x ≤ s .file .limit → pageIn (s .file .c) w x ≡ pageAt (s .file) x
   unfolding pageIn
-  page-back x a l = rw (h .pages x a l) (bytes-back (s .file .c) (pageAt (s .file) x) (page-fits ops s st x))
+  page-back x a l = rw (h .picture .pages x a l) (bytes-back (s .file .c) (pageAt (s .file) x) (page-fits ops s st x))
 
   -- a page in use
   pub page-used : (x : ℕ) → PageNo (s .file) x → pageIn (s .file .c) w x ≡ pageAt (s .file) x
@@ -36,7 +32,7 @@ module _ (ops : List Op) (s : State) (w : List ℕ) (st : Steady ops s) (h : Sho
   module _ (op : Op) where
     pub named-is : named (shapeOf (s .file)) op w ≡ entryOf (s .file) op
     unfolding named entryOf home homeOf
-    named-is = h .entries (index (s .file .g) (op .call)) (index-in (s .file) (st .good .fit) (op .call))
+    named-is = h .picture .entries (index (s .file .g) (op .call)) (index-in (s .file) (st .good .fit) (op .call))
 
     pub plan-is : (x : ℕ) → PageNo (s .file) x → plan (shapeOf (s .file)) op w x ≡ planOf (s .file) op x
     unfolding plan planOf

@@ -122,12 +122,12 @@ module _ (ops : List Op) (s : State) (i : ℕ) (w : List ℕ) (st : Steady ops s
   stage-safe (Split x b n q) e fi k u = split-safe x b n q fi k u
   stage-safe Done e fi k u = tt
 
-  pub step-safe : rowOf s i .used < 65535 → Safe sh op (rowImage (rowOf s i)) w
+  step-safe : rowOf s i .used < 65535 → Safe sh op (rowImage (rowOf s i)) w
   unfolding rowImage
   step-safe few =
       record {
         ready =
-            record { size = h .long; depth = st .good .fit .depth; capacity = st .good .fit .capacity .1; pages = st .good .fit .most };
+            record { size = h .picture .long; depth = st .good .fit .depth; capacity = st .good .fit .capacity .1; pages = st .good .fit .most };
         few = few;
         at = rw (stage-back (rowOf s i)) (unfold stageOf in stage-safe (stageOf s i) refl (st .good .fine i) (st .tidy .work i) (st .full i));
       }

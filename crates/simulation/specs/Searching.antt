@@ -1,7 +1,6 @@
 -- The turns of a search, and the first turn of every operation, in memory as in the machine.
 use mathlib.Core.Path.{_≡_, refl, sym}
 use mathlib.Core.List.{List}
-use mathlib.Core.Bool.{Bool, true, false}
 use mathlib.Core.Option.{Option, none, some}
 use Prim.Native.Nat.{ℕ}
 use lib.ListN.{getD}
@@ -9,7 +8,6 @@ use Rattle.spec.specs.declared.Rec.{Rec}
 use Rattle.spec.specs.declared.Op.{Op}
 use Rattle.spec.specs.declared.Stage.{Stage}
 use Rattle.spec.specs.declared.Stage.the-variants.{NotBegun, ReadPage, Reread, Done}
-use Rattle.spec.specs.Basics.{if}
 use Rattle.spec.specs.Code.{found, notFound}
 use Rattle.spec.specs.File.{pageAt, findIn}
 use Rattle.spec.specs.Job.{noOp}
@@ -17,6 +15,7 @@ use Rattle.spec.specs.State.{State, same, answer, Move, go}
 use Rattle.spec.specs.Turn.{foundMoment, looked, reread, turn}
 use Rattle.spec.specs.Run.{rowOf, stageOf}
 use Rattle.spec.specs.Proper.{PageNo}
+use Rattle.laws.specs.Tools.{if-both}
 use Rattle.laws.specs.Turns.Slots.{found-moment}
 use Rattle.memory.specs.Memory.{turnIn}
 use Rattle.turn.specs.Rows.{rowImage, moved, answered}
@@ -25,17 +24,7 @@ use Rattle.simulation.specs.Shown.{shapeOf, Shown}
 use Rattle.simulation.specs.RowBack.{told}
 use Rattle.simulation.specs.Steady.{Steady}
 use Rattle.simulation.specs.Moves.{Turned, calm}
-use Rattle.simulation.specs.Reads.{picture-of, home-is, page-used, named-is}
-
--- one test decides two things together
-pub if-both
-    : {A B : Type 0} (P : A → B → Type 0) {b : Bool} {x y : A} {u v : B}
-    → (b ≡ true → P x u)
-    → (b ≡ false → P y v)
-    → P (if b x y) (if b u v)
-unfolding if
-if-both P {b = true} p q = p refl
-if-both P {b = false} p q = q refl
+use Rattle.simulation.specs.Reads.{home-is, page-used, named-is}
 
 module _ (ops : List Op) (s : State) (i : ℕ) (w : List ℕ) (st : Steady ops s) (h : Shown s w) where
   abbrev op : Op
@@ -50,13 +39,13 @@ module _ (ops : List Op) (s : State) (i : ℕ) (w : List ℕ) (st : Steady ops s
   -- a turn that changes nothing shared, and one that answers besides
   pub goes-on : (to : Stage) → Does (go to same) (out (moved (rowImage (rowOf s i)) to) w)
   unfolding told
-  goes-on to = calm ops s i w (st .good) (picture-of s w h) to same
+  goes-on to = calm ops s i w (st .good) (h .picture) to same
 
   pub tells
       : (to : Stage) (k c t : ℕ)
       → Does (go to (answer k c t)) (out (answered (moved (rowImage (rowOf s i)) to) k c t) w)
   unfolding told
-  tells to k c t = calm ops s i w (st .good) (picture-of s w h) to (answer k c t)
+  tells to k c t = calm ops s i w (st .good) (h .picture) to (answer k c t)
 
   pub on-begin : Does (turn s op NotBegun) (turned NotBegun)
   unfolding turn memTurn

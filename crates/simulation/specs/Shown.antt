@@ -2,7 +2,7 @@
 use Prim.Native.Nat.{ℕ, _^_, _≤_, _<_}
 use mathlib.Core.Path.{_≡_}
 use mathlib.Core.List.{List}
-use mathlib.Core.Bool.{false}
+use mathlib.Core.Bool.{Bool, false}
 use lib.ListN.{length, getD}
 use Rattle.spec.specs.File.{File, pageAt, entryAt}
 use Rattle.spec.specs.Encode.{pageBytes}
@@ -20,12 +20,16 @@ use Rattle.turn.specs.Steps.{Out}
 abbrev pub shapeOf : File → Shape
 shapeOf f = record { depth = f .g; capacity = f .c; pages = f .limit }
 
-pub record Shown (s : State) (w : List ℕ) : Type 0 where
+-- of a file and its locks
+pub record Picture (f : File) (l : List Bool) (w : List ℕ) : Type 0 where
   pub long : workSize ≤ length w
-  pub entries : (j : ℕ) → j < 2 ^ s .file .g → entryIn w j ≡ entryAt (s .file) j
-  pub locks : (x : ℕ) → x ≤ s .file .limit → lockIn w x ≡ digit (getD (s .locks) x false)
-  pub used : usedIn w ≡ s .file .used
-  pub pages : (x : ℕ) → 1 ≤ x → x ≤ s .file .limit → partIn (s .file .c) w x ≡ pageBytes (s .file .c) (pageAt (s .file) x)
+  pub entries : (j : ℕ) → j < 2 ^ f .g → entryIn w j ≡ entryAt f j
+  pub locks : (x : ℕ) → x ≤ f .limit → lockIn w x ≡ digit (getD l x false)
+  pub used : usedIn w ≡ f .used
+  pub pages : (x : ℕ) → 1 ≤ x → x ≤ f .limit → partIn (f .c) w x ≡ pageBytes (f .c) (pageAt f x)
+
+pub record Shown (s : State) (w : List ℕ) : Type 0 where
+  pub picture : Picture (s .file) (s .locks) w
   -- the turn of a change stands under the entry and the depth of the page that it left
   pub turns : Slots (turnIn w) s
 

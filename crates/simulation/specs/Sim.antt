@@ -23,23 +23,19 @@ use Rattle.laws.specs.Turns.Rows.{rowOf-other, rowOf-same, moves-row, step-case
 use Rattle.laws.specs.Turns.Good.{Fine}
 use Rattle.laws.specs.Turns.Work.{Work}
 use Rattle.laws.specs.Turns.States.{who, stateAt-suc, stateAt-now}
-use Rattle.laws.specs.Turns.Slots.{Slots, slotAfter, step-slots, slots-same}
+use Rattle.laws.specs.Turns.Slots.{slotAfter, step-slots, slots-same}
 use Rattle.memory.specs.Memory.{lockIn, turnIn}
 use Rattle.turn.specs.declared.Row.{Row}
 use Rattle.turn.specs.Rows.{rowImage}
 use Rattle.turn.specs.Steps.{Out, out, memLock, memTurn, memStep}
 use Rattle.simulation.specs.Shown.{shapeOf, Shown, Meets}
 use Rattle.simulation.specs.RowBack.{stage-back}
-use Rattle.simulation.specs.Picture.{Picture, entry-256}
+use Rattle.simulation.specs.Picture.{entry-256}
 use Rattle.simulation.specs.Steady.{Steady, shape-at, steady}
 use Rattle.simulation.specs.Moves.{Turned}
-use Rattle.simulation.specs.Reads.{picture-of}
 use Rattle.simulation.specs.Searching.{on-begin, on-read, on-reread}
 use Rattle.simulation.specs.Holding.{on-lock, on-held}
 use Rattle.simulation.specs.Splitting.{on-old, on-split}
-
-shown-by : (s : State) (w : List ℕ) → Picture (s .file) (s .locks) w → Slots (turnIn w) s → Shown s w
-shown-by s w p t = record { long = p .long; entries = p .entries; locks = p .locks; used = p .used; pages = p .pages; turns = t }
 
 module _ (ops : List Op) (s : State) (i : ℕ) (w : List ℕ) (st : Steady ops s) (h : Shown s w) where
   abbrev op : Op
@@ -77,7 +73,7 @@ module _ (ops : List Op) (s : State) (i : ℕ) (w : List ℕ) (st : Steady ops s
   waits (Reread x t) e b = absurd (false≢true b)
   waits (Lock x) e b =
       let n : Fine (s .file) op (Lock x) = rw e at (st .good .fine i) in
-      let z : lockIn w x ≡ 1 = h .locks x (omega (arith, n, st .good .fit .within)) ∙ ap digit b in
+      let z : lockIn w x ≡ 1 = h .picture .locks x (omega (arith, n, st .good .fit .within)) ∙ ap digit b in
       rw z
   waits (Held x t) e b = absurd (false≢true b)
   waits (Split x c n q) e b = absurd (false≢true b)
@@ -87,7 +83,7 @@ module _ (ops : List Op) (s : State) (i : ℕ) (w : List ℕ) (st : Steady ops s
   unfolding step rowOf
   waited e =
       rw (waits (stageOf s i) refl e, if-true (tick s) (act s i (turn s op (stageOf s i))) e)
-      (record { shown = shown-by (tick s) w (picture-of s w h) (record { turn = h .turns .turn }); row = refl })
+      (record { shown = record { picture = h .picture; turns = record { turn = h .turns .turn } }; row = refl })
 
   acted : Steady ops (step ops s i) → idle (s .locks) (stageOf s i) ≡ false → Meets (step ops s i) i (turned (stageOf s i))
   unfolding step
@@ -96,15 +92,18 @@ module _ (ops : List Op) (s : State) (i : ℕ) (w : List ℕ) (st : Steady ops s
       let z : step ops s i ≡ act s i (turn s op (stageOf s i)) = if-false _ _ e in
       record {
         shown =
-            shown-by (step ops s i) (turned (stageOf s i) .work) (rw z (t .picture))
-            (slots-same (slotAfter s (stageOf s i) (turnIn w)) (turnIn (turned (stageOf s i) .work)) (step ops s i) (after .tidy .pages) (after .rising)
-            (λ q d l k. t .turns q d (entry-256 (step ops s i .file) (after .good .fit) q l) (omega (arith, after .good .fit .depth)))
-            (step-slots ops s i (turnIn w) (st .good) (st .tidy) (st .settled) (st .rising) (h .turns)));
+            record {
+              picture = rw z (t .picture);
+              turns =
+                  slots-same (slotAfter s (stageOf s i) (turnIn w)) (turnIn (turned (stageOf s i) .work)) (step ops s i) (after .tidy .pages) (after .rising)
+                  (λ q d l k. t .turns q d (entry-256 (step ops s i .file) (after .good .fit) q l) (omega (arith, after .good .fit .depth)))
+                  (step-slots ops s i (turnIn w) (st .good) (st .tidy) (st .settled) (st .rising) (h .turns));
+            };
         row = t .row ∙ ap rowImage (rw z (sym (rowOf-same s i (turn s op (stageOf s i)) (moves-row s i e))));
       }
 
   -- so a turn in memory is the machine's step
-  pub step-meets : Steady ops (step ops s i) → Meets (step ops s i) i (memStep (shapeOf (s .file)) op (s .now) r w)
+  step-meets : Steady ops (step ops s i) → Meets (step ops s i) i (memStep (shapeOf (s .file)) op (s .now) r w)
   unfolding memStep stageOf
   step-meets after = rw (stage-back (rowOf s i)) (by (idle (s .locks) (stageOf s i)) refl)
     where

@@ -2,7 +2,7 @@
 -- the directory or over the new pages is one number here: where the changed entries begin and end, and the last split that moves an entry.
 use mathlib.Core.Path.{_≡_, refl, sym}
 use mathlib.Core.List.{List}
-use mathlib.Core.Bool.{Bool, true, false}
+use mathlib.Core.Bool.{Bool, false}
 use Prim.Native.Nat.{ℕ, suc, _+_, _-_}
 use native.Mathlib.Numerals.{add-one}
 use native.Mathlib.Omega.{arith}
@@ -22,7 +22,7 @@ use Rattle.spec.specs.Split.{digit}
 use Rattle.spec.specs.State.{State, same, answer}
 use Rattle.spec.specs.Turn.{homeOf, planOf, goesTo, oldWritten, heldTurn, splitTurn, turn}
 use Rattle.spec.specs.Run.{rowOf, stageOf}
-use Rattle.laws.specs.Tools.{bool-same, first, rest, each-imp, each-or}
+use Rattle.laws.specs.Tools.{if-ap, bool-same, first, rest, each-imp, each-or}
 use Rattle.laws.specs.Turns.Good.{Fine, goes-span}
 use Rattle.laws.specs.Turns.Work.{Work}
 use Rattle.laws.specs.Turns.SplitPlan.{made}
@@ -38,13 +38,12 @@ use Rattle.simulation.specs.Shown.{shapeOf, Shown}
 use Rattle.simulation.specs.RowBack.{told}
 use Rattle.simulation.specs.Steady.{Steady}
 use Rattle.simulation.specs.Moves.{Turned, slotWith, locked, paged, entered}
-use Rattle.simulation.specs.Reads.{picture-of, home-is, page-used, plan-is}
+use Rattle.simulation.specs.Reads.{home-is, page-used, plan-is}
 
 -- a row that is answered where a test holds
 told-if : (r : Row) (b : Bool) (k c t : ℕ) → if b (answered r k c t) r ≡ told r (if b (answer k c t) same)
-unfolding told if
-told-if r true k c t = refl
-told-if r false k c t = refl
+unfolding told
+told-if r b k c t = if-ap (told r) b (answer k c t) same
 
 behind-is : (g : ℕ) (p : Page) → behind g p ≡ endOf g p
 unfolding behind endOf
@@ -75,7 +74,7 @@ module _ (ops : List Op) (s : State) (i : ℕ) (w : List ℕ) (st : Steady ops s
       let test : eqb (lastSplit f op x (homeOf f op)) 0 ≡ eqb (goesTo f op x 0 (homeOf f op)) 0
       = bool-same _ _ (λ z. eq-eqb _ _ (stays .1 (eqb-true _ _ z))) (λ z. eq-eqb _ _ (stays .0 (eqb-true _ _ z))) in
       rw (page-used ops s w st h x (n .0), plan-is ops s w st h op x (n .0), home-is f op, ← count, test, told-if)
-      (paged ops s i w (st .good) (picture-of s w h) _ _ x _ (omega (arith, n .0, st .good .fit .within))
+      (paged ops s i w (st .good) (h .picture) _ _ x _ (omega (arith, n .0, st .good .fit .within))
       (first (made f op x (st .good .fit) (st .tidy .pages x) (k .0)) .ok .room))
 
   module _ (x b n : ℕ) where
@@ -88,7 +87,7 @@ module _ (ops : List Op) (s : State) (i : ℕ) (w : List ℕ) (st : Steady ops s
         let q : Fine f op (Split x b n (WriteNew m)) = rw e at (st .good .fine i) in
         let k : Work f op (Split x b n (WriteNew m)) = rw e at (st .tidy .work i) in
         rw (plan-is ops s w st h op x (q .0 .number), add-one, behind-is, ← split-first ops s i x b n (st .good) (st .tidy) (st .settled) m e)
-        (paged ops s i w (st .good) (picture-of s w h) _ same (b + m) _ (omega (arith, q .0 .top, q .1, st .good .fit .within))
+        (paged ops s i w (st .good) (h .picture) _ same (b + m) _ (omega (arith, q .0 .top, q .1, st .good .fit .within))
         (each-or (planOf f op x .news) (m - 1) zeroPage (omega arith)
         (each-imp (λ (z : Page) g. g .ok .room) (rest (made f op x (st .good .fit) (st .tidy .pages x) (k .0))))))
 
@@ -106,7 +105,7 @@ module _ (ops : List Op) (s : State) (i : ℕ) (w : List ℕ) (st : Steady ops s
         let to : b + lastOne (f .g) (op .call) j n (pageAt f x .depth) 1 0 ≡ goesTo f op x b j = rw (q .0 .count) (sym (go .0)) in
         let span = goes-span f op x b n j (q .0) (q .1) in
         rw (page-used ops s w st h x (q .0 .number), home-is f op, add-one, behind-is, ← next .3, told-if, to)
-        (entered ops s i w (st .good) (picture-of s w h) _ _ j (goesTo f op x b j) (pageAt f x .depth) (k .1 .2)
+        (entered ops s i w (st .good) (h .picture) _ _ j (goesTo f op x b j) (pageAt f x .depth) (k .1 .2)
         (omega (arith, span, q .0 .top, st .good .fit .within, st .good .fit .most))
         (omega (arith, entry-slot ops s i x b n j (st .good) (st .tidy) e, st .good .fit .depth))
         (st .time))
@@ -118,7 +117,7 @@ module _ (ops : List Op) (s : State) (i : ℕ) (w : List ℕ) (st : Steady ops s
     on-unlock e =
         let q : Fine f op (Split x b n UnlockNew) = rw e at (st .good .fine i) in
         rw add-one
-        (locked ops s i w (st .good) (picture-of s w h) (Held x WriteOld) (suc b) n false (omega (arith, q .0 .top, st .good .fit .within)))
+        (locked ops s i w (st .good) (h .picture) (Held x WriteOld) (suc b) n false (omega (arith, q .0 .top, st .good .fit .within)))
 
     -- each turn of a split, until the old page is written
     pub on-split

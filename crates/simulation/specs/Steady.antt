@@ -1,22 +1,20 @@
 -- All that a turn in memory rests on, of a state of a run: gathered in one record, for every state of an accepted job's run; and what follows of
 -- the pages, that they fit their bytes.
 use mathlib.Core.Path.{_≡_}
-use mathlib.Core.List.{List, [], _∷_}
-use Prim.Native.Nat.{ℕ, zero, suc, _≤_, _<_}
+use mathlib.Core.List.{List}
+use Prim.Native.Nat.{ℕ, _≤_, _<_}
 use native.Mathlib.Omega.{arith}
-use lib.ListN.{length, take, length-take}
+use lib.ListN.{length}
 use lib.Pow.{pow-mono}
 use Rattle.spec.specs.declared.Op.{Op}
-use Rattle.spec.specs.Basics.{Each, end, next}
 use Rattle.spec.specs.File.{pageAt}
 use Rattle.spec.specs.Job.{Job}
 use Rattle.spec.specs.State.{State}
-use Rattle.spec.specs.Run.{stageOf, run}
+use Rattle.spec.specs.Run.{stageOf}
 use Rattle.spec.specs.Claims.{stateAt}
-use Rattle.laws.specs.Tools.{first, rest}
 use Rattle.laws.specs.Codec.Back.{RecFits, PageFits}
 use Rattle.laws.specs.Codec.Proper.{JobProper}
-use Rattle.laws.specs.ReadBack.{narrow}
+use Rattle.laws.specs.ReadBack.{narrow-at}
 use Rattle.laws.specs.Room.{Shaped, run-shaped}
 use Rattle.laws.specs.Turns.Good.{Good}
 use Rattle.laws.specs.Turns.Does.{Tidy}
@@ -27,6 +25,7 @@ use Rattle.laws.specs.Turns.Narrow.{EveryRecord}
 use Rattle.laws.specs.Turns.Rising.{Rising, rising}
 use Rattle.laws.specs.Turns.Followed.{Followed, followed}
 use Rattle.laws.specs.Turns.Full.{Full, full}
+use Rattle.laws.specs.Turns.Fields.{cut, cut-run}
 use Rattle.simulation.specs.Shown.{shapeOf}
 
 pub record Steady (ops : List Op) (s : State) : Type 0 where
@@ -46,37 +45,13 @@ page-fits ops s st x =
     let m = pow-mono {i = pageAt (s .file) x .depth} {j = 8} (omega (arith, p .deep, st .good .fit .depth)) in
     record { pattern = omega (arith, p .small); count = p .room; records = st .records x }
 
--- the first k turns of a job
-abbrev cut : Job → ℕ → Job
-cut j k = record { file = j .file; ops = j .ops; turns = take k (j .turns) }
-
-each-take : {A : Type 0} {P : A → Type 0} (n : ℕ) (xs : List A) → Each P xs → Each P (take n xs)
-each-take zero xs h = end
-each-take (suc n) [] h = end
-each-take (suc n) (x ∷ xs) h = next (first h) (each-take n xs (rest h))
-
-cut-proper : (j : Job) (k : ℕ) → JobProper j → JobProper (cut j k)
-cut-proper j k h =
-    record {
-      file = h .file;
-      records = h .records;
-      opCount = h .opCount;
-      ops = h .ops;
-      turnCount = omega (arith, length-take k (j .turns), h .turnCount);
-      turns = each-take k (j .turns) (h .turns);
-    }
-
 shaped : (j : Job) (k : ℕ) → Shaped (j .file) (stateAt j k)
-unfolding stateAt run
-shaped j k = run-shaped (cut j k)
+unfolding cut
+shaped j k = rw (← cut-run j k) (run-shaped (cut j k))
 
 -- the shape stays
 pub shape-at : (j : Job) (k : ℕ) → shapeOf (stateAt j k .file) ≡ shapeOf (j .file)
 shape-at j k = let z = shaped j k in λ i. record { depth = z .depth i; capacity = z .capacity i; pages = z .limit i }
-
-records-at : (j : Job) → JobProper j → (k : ℕ) → EveryRecord RecFits (stateAt j k .file)
-unfolding stateAt run
-records-at j h k = narrow (cut j k) (cut-proper j k h) .0
 
 pub steady : (j : Job) → JobProper j → (k : ℕ) → k ≤ length (j .turns) → Steady (j .ops) (stateAt j k)
 steady j h k l =
@@ -88,6 +63,6 @@ steady j h k l =
       rising = rising j (h .file) k l;
       followed = followed j (h .file) k l;
       full = full j (h .file) k l;
-      records = records-at j h k;
+      records = narrow-at j h k .0;
       time = omega (arith, stateAt-now j k l, h .turnCount);
     }

@@ -2,7 +2,6 @@
 use mathlib.Core.Path.{_≡_, refl, sym, ap, _∙_}
 use mathlib.Core.Logic.{by-cases}
 use mathlib.Core.List.{List, [], _∷_, _++_, append-assoc}
-use mathlib.Core.Bool.{Bool, true, false}
 use Prim.Native.Nat.{ℕ, zero, suc, _+_, _*_, _/_, _%_, _^_, _≤_, _<_}
 use native.Mathlib.Omega.{arith}
 use native.Mathlib.Decide.{decLt}
@@ -11,35 +10,25 @@ use lib.Dec.{ltb}
 use borrow.Author.Tests.{ltb-false, lt-ltb, le-ltb}
 use Rattle.spec.specs.Basics.{if}
 use Rattle.spec.specs.Report.{digits, decimal}
-
--- a test decides: what holds on both sides, and what stands behind both
-by-test : {a b x y : List ℕ} (t : Bool) → a ≡ b → (t ≡ false → x ≡ y) → if t a x ≡ if t b y
-unfolding if
-by-test true e d = e
-by-test false e d = d refl
-
-append-if : (x y acc : List ℕ) (t : Bool) → if t (x ++ acc) (y ++ acc) ≡ if t x y ++ acc
-unfolding if
-append-if x y acc true = refl
-append-if x y acc false = refl
+use Rattle.laws.specs.Tools.{if-both, if-ap}
 
 digits-acc : (f n : ℕ) (acc : List ℕ) → digits f n acc ≡ digits f n [] ++ acc
 unfolding digits
 digits-acc zero n acc = refl
 digits-acc (suc f) n acc =
-    by-test (ltb n 10) refl
+    if-both (λ (u v : List ℕ). u ≡ v) (λ e. refl)
     (λ e.
     digits-acc f (n / 10) ((48 + n % 10) ∷ acc)
     ∙ sym (append-assoc (digits f (n / 10) []) ((48 + n % 10) ∷ []) acc)
     ∙ ap (λ (l : List ℕ). l ++ acc) (sym (digits-acc f (n / 10) ((48 + n % 10) ∷ []))))
-    ∙ append-if ((48 + n) ∷ []) (digits f (n / 10) ((48 + n % 10) ∷ [])) acc (ltb n 10)
+    ∙ if-ap (λ (l : List ℕ). l ++ acc) (ltb n 10) ((48 + n) ∷ []) (digits f (n / 10) ((48 + n % 10) ∷ []))
 
 digits-fuel : (f g n : ℕ) (acc : List ℕ) → n < f → n < g → digits f n acc ≡ digits g n acc
 unfolding digits
 digits-fuel zero g n acc h k = absurd (omega arith)
 digits-fuel (suc f) zero n acc h k = absurd (omega arith)
 digits-fuel (suc f) (suc g) n acc h k =
-    by-test (ltb n 10) refl (λ e. let big = ltb-false n 10 e in digits-fuel f g (n / 10) ((48 + n % 10) ∷ acc) (omega arith) (omega arith))
+    if-both (λ (u v : List ℕ). u ≡ v) (λ e. refl) (λ e. let big = ltb-false n 10 e in digits-fuel f g (n / 10) ((48 + n % 10) ∷ acc) (omega arith) (omega arith))
 
 -- one digit
 pub decimal-small : (n : ℕ) → n < 10 → decimal n ≡ (48 + n) ∷ []

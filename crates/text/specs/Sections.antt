@@ -9,7 +9,7 @@ use lib.ListN.{length, take, drop, length-drop}
 use lib.Seq.{take-all, drop-drop}
 use Rattle.spec.specs.Basics.{each}
 use Rattle.spec.specs.Bytes.{parts}
-use Rattle.laws.specs.Codec.Parts.{each-snoc}
+use Rattle.laws.specs.Codec.Parts.{each-snoc, next-place}
 
 -- places: the next part, and a part that lies within
 pub one-more : (size i : ℕ) → size * (i + 1) ≡ size * i + size
@@ -33,10 +33,7 @@ unfolding parts
 next-part zero size b = rw (mul-zero size)
 next-part (suc n) size b =
     ap (λ (l : List (List ℕ)). take size b ∷ l) (next-part n size (drop size b))
-    ∙ rw (drop-drop (size * n) size b, next-place)
-  where
-    next-place : size + size * n ≡ size * suc n
-    next-place = omega arith
+    ∙ rw (drop-drop (size * n) size b, next-place size n)
 
 pub parts-more : (n size : ℕ) (b : List ℕ) → parts (n + 1) size b ≡ parts n size b ++ (take size (drop (size * n) b) ∷ [])
 parts-more n size b = rw add-one (next-part n size b)

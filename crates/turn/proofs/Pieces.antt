@@ -1,16 +1,17 @@
 -- The piece that a split leaves in the old page: where its entries end.
-use mathlib.Core.Path.{_≡_, sym}
-use mathlib.Core.List.{List}
+use mathlib.Core.Path.{_≡_}
+use mathlib.Core.List.{List, []}
 use Prim.Native.Nat.{ℕ, zero, suc, _+_, _-_, _*_, _^_, _≤_, _<_}
-use native.Mathlib.Nat.{mul-le-mul-right, pow-suc}
+use native.Mathlib.Nat.{pow-suc}
 use native.Mathlib.Omega.{arith}
-use lib.Pow.{pow-add, pow-mono}
+use lib.Pow.{pow-mono}
 use Rattle.spec.specs.declared.Op.{Op}
 use Rattle.spec.specs.Key.{index}
 use Rattle.spec.specs.Split.{digit, splitCount}
 use Rattle.spec.specs.Turn.{recOf}
 use Rattle.laws.specs.Tools.{if-case}
 use Rattle.laws.specs.Key.{index-lt}
+use Rattle.laws.specs.Turns.Interval.{endOf, end-le}
 use Rattle.pieces.specs.declared.Piece.{Piece}
 use Rattle.pieces.specs.Piece.{keptPiece, ownPiece, sidePiece, cut}
 use Rattle.pieces.specs.Parts.{grow-old}
@@ -38,10 +39,8 @@ kept-bounded (suc n) d call h =
 
 -- the entries of a pattern end within the directory
 behind-most : (g d p : ℕ) → d ≤ g → p < 2 ^ d → (p + 1) * 2 ^ (g - d) ≤ 2 ^ g
-behind-most g d p h k =
-    let e : d + (g - d) ≡ g = omega arith in
-    let most : (p + 1) * 2 ^ (g - d) ≤ 2 ^ d * 2 ^ (g - d) = mul-le-mul-right (2 ^ (g - d)) (omega arith) in
-    rw (sym (pow-add 2 d (g - d)), e) at most
+unfolding endOf
+behind-most g d p h k = end-le g (record { depth = d; pattern = p; records = [] }) h k
 
 -- q is what the splits for the insert leave in page x
 abbrev pub OldPiece : Shape → Op → List ℕ → ℕ → Piece → Type 0

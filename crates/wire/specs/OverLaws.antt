@@ -6,7 +6,7 @@ use native.Mathlib.Nat.{le-of-lt}
 use native.Mathlib.Numerals.{add-one}
 use native.Mathlib.Omega.{arith}
 use lib.ListN.{length, getD, set, take, drop}
-use lib.Seq.{sets, length-sets, sets-eq, set-comm, set-set, take-set-le, drop-set-lt, take-suc, length-take-le, drop-length}
+use lib.Seq.{sets, length-sets, sets-eq, set-comm, set-set, drop-set-lt, take-suc, length-take-le, drop-length}
 use Rattle.spec.specs.Bytes.{two, four}
 use Rattle.wire.specs.Over.{over}
 
@@ -81,11 +81,6 @@ pub over-whole : (x s : List ℕ) → length x ≡ length s → over s 0 x ≡ x
 over-whole x s e =
     let z : 0 + length x ≡ length s = omega arith in
     over-parts x s 0 (omega arith) ∙ rw (z, drop-length s, append-nil x)
-
-pub take-over : (x s : List ℕ) (at n : ℕ) → n ≤ at → take n (over s at x) ≡ take n s
-unfolding over
-take-over [] s at n h = refl
-take-over (v ∷ x) s at n h = take-over x (set s at v) (suc at) n (omega arith) ∙ take-set-le n s at v h
 
 pub drop-over : (x s : List ℕ) (at n : ℕ) → at + length x ≤ n → drop n (over s at x) ≡ drop n s
 unfolding over

@@ -69,9 +69,6 @@ long-over-other x s at k h = long-same (over s at x) s k k (λ j l. byte-over-ot
 pub word-over : (x s : List ℕ) (at j : ℕ) → j + 2 ≤ length x → at + length x ≤ length s → word (over s at x) (at + j) ≡ word x j
 word-over x s at j h f = word-same (over s at x) x (at + j) j (λ k l. rw (add-assoc at j k) (byte-over x s at (j + k) (omega arith) f))
 
-pub long-over : (x s : List ℕ) (at j : ℕ) → j + 4 ≤ length x → at + length x ≤ length s → long (over s at x) (at + j) ≡ long x j
-long-over x s at j h f = long-same (over s at x) x (at + j) j (λ k l. rw (add-assoc at j k) (byte-over x s at (j + k) (omega arith) f))
-
 -- a number as bytes, read again
 pub word-put : (s : List ℕ) (at v : ℕ) → at + 2 ≤ length s → v < 65536 → word (over s at (two v)) at ≡ v
 unfolding two

@@ -1,5 +1,5 @@
 -- Byte strings: every number in them is below 256. What is written of a proper job is one.
-use Prim.Native.Nat.{ℕ, zero, suc, _-_, _*_, _/_, _%_, _<_, _≤_}
+use Prim.Native.Nat.{ℕ, _-_, _*_, _/_, _%_, _<_, _≤_}
 use mathlib.Core.List.{List, [], _∷_, _++_}
 use native.Mathlib.Omega.{arith}
 use lib.ListN.{length, getD, replicate}
@@ -13,7 +13,7 @@ use Rattle.spec.specs.File.{Page}
 use Rattle.spec.specs.Job.{Job, Header, kindNumber, recordSize, maxDepth, maxCapacity}
 use Rattle.spec.specs.Encode.{headerBytes, recordBytes, pageBytes, opBytes, headerFor, encodeJob}
 use Rattle.spec.specs.Proper.{PageOk}
-use Rattle.laws.specs.Tools.{each-imp, each-append}
+use Rattle.laws.specs.Tools.{each-imp, each-append, replicate-all}
 use Rattle.laws.specs.Codec.Tools.{every, each-places}
 use Rattle.laws.specs.Codec.Proper.{JobProper, pages-proper}
 
@@ -37,8 +37,7 @@ unfolding four
 four-are n = two-are _ and two-are _
 
 zeros-are : (n : ℕ) → AreBytes (replicate n 0)
-zeros-are zero = end
-zeros-are (suc n) = next {x = 0} (omega arith) (zeros-are n)
+zeros-are n = are-bytes _ (replicate-all (λ x. x < 256) n 0 0 (omega arith) (omega arith))
 
 each-are : {A : Type 0} {enc : A → List ℕ} {xs : List A} → Each (λ x. AreBytes (enc x)) xs → AreBytes (each enc xs)
 unfolding each

@@ -19,9 +19,9 @@ use Rattle.laws.specs.Codec.Rows.{Rows, accepted-rows, limits-said, coun
 use Rattle.laws.specs.Codec.Pages.{length-pages, page-at}
 use Rattle.laws.specs.Codec.Ops.{OpFine, ops-said}
 use Rattle.laws.specs.Codec.Accepted.{accepted-file, accepted-turns}
-use Rattle.laws.specs.Codec.Back.{RecFits, JobFits}
+use Rattle.laws.specs.Codec.Back.{RecFits}
 use Rattle.laws.specs.Codec.Forth.{encode-decode}
-use Rattle.laws.specs.Codec.Proper.{RecordsFit, OpProper, JobProper, job-fits}
+use Rattle.laws.specs.Codec.Proper.{RecordsFit, OpProper, JobProper}
 use Rattle.laws.specs.Codec.Written.{proper-accepted}
 use Rattle.laws.specs.Codec.AsBytes.{written-bytes}
 
@@ -71,9 +71,6 @@ accepted-proper b h e =
       turnCount = omega (arith, n .turns, l .turns);
       turns = accepted-turns b e;
     }
-
-pub accepted-fits : (b : List ℕ) → AreBytes b → jobFault b ≡ none → JobFits (jobOf b)
-accepted-fits b h e = job-fits (jobOf b) (accepted-proper b h e)
 
 -- WHAT IS ACCEPTED IS EXACTLY WHAT IS WRITTEN OF PROPER JOBS
 pub accepted-exactly : (b : List ℕ) → AreBytes b × (jobFault b ≡ none) ↔ ((j : Job) × JobProper j × (encodeJob j ≡ b))

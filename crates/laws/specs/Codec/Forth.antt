@@ -46,20 +46,15 @@ number-forth p w = all-of (two-word p (w .bytes) 0 (omega (arith, w .size))) (w 
 
 record-forth : (p : List ℕ) → Whole 8 p → recordBytes (recordOf p) ≡ p
 unfolding recordBytes recordOf
-record-forth p w = all-of (field 0 (omega arith) then field 4 (omega arith)) (w .size)
-  where
-    field : (k : ℕ) → k + 4 ≤ 8 → Piece p (four (long p k)) k 4
-    field k l = four-long p (w .bytes) k (omega (arith, w .size))
+record-forth p w = all-of (four-long p (w .bytes) 0 (omega (arith, w .size)) then four-long p (w .bytes) 4 (omega (arith, w .size))) (w .size)
 
 op-forth : (p : List ℕ) → Whole 10 p → OpFine p → opBytes (opOf p) ≡ p
 unfolding opBytes opOf
-op-forth p w o = all-of (first then field 2 (omega arith) then field 6 (omega arith)) (w .size)
+op-forth p w o =
+    all-of (first then four-long p (w .bytes) 2 (omega (arith, w .size)) then four-long p (w .bytes) 6 (omega (arith, w .size))) (w .size)
   where
     first : Piece p (kindNumber (kindOf (byte p 0)) ∷ 0 ∷ []) 0 2
     first = rw (kind-forth (byte p 0) (o .kind .0) (o .kind .1)) (rw (o .spare) at (two-bytes p 0 (omega (arith, w .size))))
-
-    field : (k : ℕ) → k + 4 ≤ 10 → Piece p (four (long p k)) k 4
-    field k l = four-long p (w .bytes) k (omega (arith, w .size))
 
 page-forth : (h : Header) (x : ℕ) (p : List ℕ) → Whole (pageSize (h .c)) p → PageFine h x p → pageBytes (h .c) (pageOf p) ≡ p
 unfolding pageBytes pageOf

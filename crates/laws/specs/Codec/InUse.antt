@@ -1,22 +1,27 @@
 -- The pages in use, 1 to U, by number: what a walk over them says, said of page x.
 use Prim.Native.Nat.{ℕ, zero, suc, _<_, _≤_}
 use mathlib.Core.Path.{_≡_, _∙_}
-use mathlib.Core.Logic.{_↔_}
+use mathlib.Core.Logic.{_↔_, Dec·and, by-cases}
 use mathlib.Core.Bool.{Bool, false}
 use mathlib.Core.Option.{Option, none}
 use native.Mathlib.Omega.{arith}
 use native.Mathlib.Numerals.{one-add}
+use native.Mathlib.Decide.{decLe}
 use lib.ListN.{length, getD, drop, length-drop}
 use lib.Seq.{length-take-le, getD-take, getD-drop}
 use Rattle.spec.specs.Basics.{firstOf, anyOf}
 use Rattle.spec.specs.File.{Page, File, zeroPage, pageAt, pagesInUse}
-use Rattle.spec.specs.Proper.{PageNo}
+use Rattle.spec.specs.Proper.{PageNo, FileOk}
 use Rattle.laws.specs.Codec.Walk.{first-none, first-from-1, any-none, any-from-1}
 
 -- the pages behind place 0
 pub page-behind : (f : File) (k : ℕ) → getD (drop 1 (f .table)) k zeroPage ≡ pageAt f (suc k)
 unfolding pageAt
 page-behind f k = getD-drop 1 (f .table) k zeroPage ∙ rw one-add
+
+-- what every page is, if those in use are so and a page of zeros is
+pub any-page : (f : File) (P : Page → Type 0) → FileOk f → P zeroPage → ((x : ℕ) → PageNo f x → P (pageAt f x)) → (x : ℕ) → P (pageAt f x)
+any-page f P ok zeroed used x = by-cases (Dec·and (decLe 1 x) (decLe x (f .used))) (used x) (λ n. rw (ok .unused x n) zeroed)
 
 module _ (f : File) (within : f .used ≤ f .limit) (size : length (f .table) ≡ suc (f .limit)) where
   length-in-use : length (pagesInUse f) ≡ f .used

@@ -1,5 +1,5 @@
 -- No job is longer than 53,280 bytes, and one byte more already decides: what is printed of any bytes is what is printed of their first 53,281.
-use Prim.Native.Nat.{ℕ, suc, _+_, _*_, _<_, _≤_}
+use Prim.Native.Nat.{ℕ, suc, _*_, _<_, _≤_}
 use mathlib.Core.Path.{_≡_, refl, sym, ap, _∙_}
 use mathlib.Core.Logic.{by-cases}
 use mathlib.Core.List.{List}
@@ -10,16 +10,16 @@ use native.Mathlib.Omega.{arith}
 use native.Mathlib.Decide.{decLe}
 use lib.ListN.{length, take}
 use lib.Pow.{pow-mono}
-use lib.Seq.{take-all, getD-take, length-take-le}
+use lib.Seq.{take-all, length-take-le}
 use Rattle.spec.specs.Basics.{orElse}
-use Rattle.spec.specs.Bytes.{byte, word, long}
 use lib.Dec.{eqb}
 use borrow.Author.Tests.{ne-eqb}
-use Rattle.spec.specs.Job.{Header, headerSize, versionAt, gAt, cAt, limitAt, usedAt, opCountAt, turnCountAt, directoryOffsetAt, tableOffsetAt, opsOffsetAt, turnsOffsetAt, totalAt, pageSize, tableOffset, opsOffset, turnsOffset, total, fileLength}
+use Rattle.spec.specs.Job.{Header, versionAt, gAt, cAt, limitAt, usedAt, opCountAt, turnCountAt, directoryOffsetAt, tableOffsetAt, opsOffsetAt, turnsOffsetAt, totalAt, pageSize, tableOffset, opsOffset, turnsOffset, total, fileLength}
 use Rattle.spec.specs.Decode.{headerOf}
 use Rattle.spec.specs.Check.{Fault, short, wrongVersion, overLimit, wrongOffset, numbered, firstRow, jobFault}
 use Rattle.spec.specs.Report.{printedBy, printed}
 use Rattle.laws.specs.Codec.Tools.{failed, among-none, among-end}
+use Rattle.laws.specs.Codec.Parts.{byte-in, word-in, long-in}
 use Rattle.laws.specs.Codec.Rows.{Limits, limits-said, accepted-header}
 
 -- the lengths of the longest charge file and of the longest job: the deepest directory, the most and largest pages; the most operations and turns
@@ -58,23 +58,11 @@ module _ (b : List ℕ) (n : ℕ) (more : longest < n) (within : n ≤ length b)
   abbrev front : List ℕ
   front = take n b
 
-  byte-kept : (p : ℕ) → p < headerSize → byte front p ≡ byte b p
-  unfolding byte
-  byte-kept p l = getD-take n b p 0 (omega arith)
-
-  word-kept : (p : ℕ) → p + 2 ≤ headerSize → word front p ≡ word b p
-  unfolding word
-  word-kept p l = rw (byte-kept p (omega arith), byte-kept (p + 1) (omega arith))
-
-  long-kept : (p : ℕ) → p + 4 ≤ headerSize → long front p ≡ long b p
-  unfolding long
-  long-kept p l = rw (word-kept p (omega arith), word-kept (p + 2) (omega arith))
-
   header-kept : headerOf front ≡ headerOf b
   unfolding headerOf
   header-kept =
       rw
-      (byte-kept gAt (omega arith), byte-kept cAt (omega arith), word-kept limitAt (omega arith), word-kept usedAt (omega arith), word-kept opCountAt (omega arith), word-kept turnCountAt (omega arith))
+      (byte-in n 0 b gAt (omega arith), byte-in n 0 b cAt (omega arith), word-in n 0 b limitAt (omega arith), word-in n 0 b usedAt (omega arith), word-in n 0 b opCountAt (omega arith), word-in n 0 b turnCountAt (omega arith))
 
   not-short : (c : List ℕ) → longest < length c → short c ≡ none
   unfolding short
@@ -85,7 +73,7 @@ module _ (b : List ℕ) (n : ℕ) (more : longest < n) (within : n ≤ length b)
 
   version-kept : wrongVersion front ≡ wrongVersion b
   unfolding wrongVersion
-  version-kept = rw (word-kept versionAt (omega arith))
+  version-kept = rw (word-in n 0 b versionAt (omega arith))
 
   limit-kept : overLimit front ≡ overLimit b
   unfolding overLimit
@@ -100,7 +88,7 @@ module _ (b : List ℕ) (n : ℕ) (more : longest < n) (within : n ≤ length b)
     unfolding wrongOffset
     offset-kept =
         rw
-        (header-kept, long-kept directoryOffsetAt (omega arith), long-kept tableOffsetAt (omega arith), long-kept opsOffsetAt (omega arith), long-kept turnsOffsetAt (omega arith), long-kept totalAt (omega arith))
+        (header-kept, long-in n 0 b directoryOffsetAt (omega arith), long-in n 0 b tableOffsetAt (omega arith), long-in n 0 b opsOffsetAt (omega arith), long-in n 0 b turnsOffsetAt (omega arith), long-in n 0 b totalAt (omega arith))
         (rw (not-total _ (length front) (omega (arith, length-take-le n b within)), not-total _ (length b) (omega arith)))
 
     offset-wrong : wrongOffset b ≡ none → ⊥

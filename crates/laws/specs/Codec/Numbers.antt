@@ -8,6 +8,7 @@ use native.Mathlib.Nat.{add-zero, add-comm, add-mul-mod-self-left, mod-eq-of-lt,
 use lib.ListN.{length, take, drop, replicate}
 use Rattle.spec.specs.Basics.{Each, end, next}
 use Rattle.spec.specs.Bytes.{AreBytes, byte, word, long, two, four, parts, zeros}
+use Rattle.laws.specs.Tools.{each-or}
 use Rattle.laws.specs.Codec.Tools.{eqb-yes, each-imp₂}
 use Rattle.laws.specs.Codec.Parts.{parts-size}
 
@@ -23,9 +24,7 @@ long-four n post l = omega arith
 -- what is read of bytes fits
 pub byte-lt : (b : List ℕ) → AreBytes b → (p : ℕ) → byte b p < 256
 unfolding byte
-byte-lt [] end p = omega arith
-byte-lt (x ∷ b) (next h t) zero = h
-byte-lt (x ∷ b) (next h t) (suc p) = byte-lt b t p
+byte-lt b h p = each-or b p 0 (omega arith) h
 
 pub word-small : (b : List ℕ) (p : ℕ) → byte b p < 256 → byte b (p + 1) < 256 → word b p < 65536
 unfolding word

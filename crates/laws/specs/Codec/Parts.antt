@@ -11,7 +11,7 @@ use Rattle.spec.specs.Basics.{each, Each, end, next}
 use Rattle.spec.specs.Bytes.{byte, word, long, parts}
 
 -- places
-next-place : (size i : ℕ) → size * suc i ≡ size + size * i
+pub next-place : (size i : ℕ) → size * suc i ≡ size + size * i
 next-place size i = omega arith
 
 pub length-parts : (n size : ℕ) (b : List ℕ) → length (parts n size b) ≡ n

@@ -3,7 +3,6 @@ use Prim.Native.Nat.{ℕ, suc, _^_, _<_, _≤_}
 use mathlib.Core.Path.{_≡_, ap, _∙_}
 use mathlib.Core.List.{List, [], _∷_}
 use native.Mathlib.Omega.{arith}
-use native.Mathlib.Decide.{decLe}
 use lib.ListN.{length, getD, drop, length-drop}
 use lib.Pow.{pow-mono}
 use Rattle.spec.specs.declared.Kind.the-variants.{Insert}
@@ -11,12 +10,13 @@ use Rattle.spec.specs.declared.Op.{Op}
 use Rattle.spec.specs.Basics.{Each, end}
 use Rattle.spec.specs.File.{Page, File, zeroPage, pageAt}
 use Rattle.spec.specs.Job.{Job, maxOps, maxTurns}
-use Rattle.spec.specs.Proper.{empty, PageNo, PageOk, FileOk}
+use Rattle.spec.specs.Proper.{PageNo, PageOk, FileOk}
 use Rattle.laws.specs.Tools.{each-imp}
 use Rattle.laws.specs.Codec.Tools.{each-places}
-use Rattle.laws.specs.Codec.InUse.{page-behind}
+use Rattle.laws.specs.Codec.InUse.{page-behind, any-page}
 use Rattle.laws.specs.Codec.Sections.{Sized, jobFor}
 use Rattle.laws.specs.Codec.Back.{RecFits, PageFits, OpFits, FileFits, JobFits}
+use Rattle.laws.specs.Turns.Pages.{empty-ok}
 
 -- every record of a page in use fits 32 bits
 abbrev pub RecordsFit : File → Type 0
@@ -34,17 +34,13 @@ pub record JobProper (j : Job) : Type 0 where
   pub turnCount : length (j .turns) ≤ maxTurns
   pub turns : Each (λ t. t < length (j .ops)) (j .turns)
 
--- what every page is, if those in use are so and a page of zeros is
+-- the same of every page of the table, by its place
 every-page : (f : File) (P : Page → Type 0) → FileOk f → P zeroPage → ((x : ℕ) → PageNo f x → P (pageAt f x)) → Each P (drop 1 (f .table))
-every-page f P ok zeroed used = each-places (drop 1 (f .table)) zeroPage .1 (λ k l. rw page-behind (by k (decLe (suc k) (f .used))))
-  where
-    by : (k : ℕ) → Dec (suc k ≤ f .used) → P (pageAt f (suc k))
-    by k (yes u) = used (suc k) (omega arith, u)
-    by k (no u) = rw (ok .unused (suc k) (λ n. u (n .1))) zeroed
+every-page f P ok zeroed used =
+    each-places (drop 1 (f .table)) zeroPage .1 (λ k l. rw page-behind (any-page f P ok zeroed used (suc k)))
 
 pub pages-proper : (f : File) → FileOk f → Each (PageOk (f .g) (f .c)) (drop 1 (f .table))
-pages-proper f ok =
-    every-page f (PageOk (f .g) (f .c)) ok (record { deep = omega arith; small = omega arith; room = omega arith; homed = end; once = empty }) (ok .pages)
+pages-proper f ok = every-page f (PageOk (f .g) (f .c)) ok (empty-ok (f .g) (f .c)) (ok .pages)
 
 pub file-sized : (f : File) → FileOk f → Sized f
 file-sized f ok =

@@ -1,11 +1,10 @@
 -- With no turns the charge file in the result is the one that came in, byte for byte.
 use Prim.Native.Nat.{ℕ, zero, suc, _+_, _-_, _*_, _^_}
 use mathlib.Core.Path.{_≡_, refl, ap, _∙_}
-use mathlib.Core.List.{List, [], _∷_, _++_, append-nil, append-assoc}
+use mathlib.Core.List.{List, [], _++_, append-nil, append-assoc}
 use mathlib.Core.Option.{none, some}
 use native.Mathlib.Omega.{arith}
-use lib.ListN.{length, take, drop, replicate}
-use lib.Seq.{drop-at}
+use lib.ListN.{length, take, drop, replicate, drop-of-length-le}
 use Rattle.spec.specs.Basics.{if, each}
 use Rattle.spec.specs.Bytes.{AreBytes}
 use Rattle.spec.specs.Job.{Job, headerSize, pageSize, tableOffset, opsOffset}
@@ -17,7 +16,7 @@ use Rattle.spec.specs.Result.{underWay, countUnder, resultOf, result, fileBytes
 use Rattle.spec.specs.Check.{jobFault}
 use Rattle.laws.specs.Codec.Pieces.{behind}
 use Rattle.laws.specs.Codec.Rows.{Rows, accepted-rows, counted}
-use Rattle.laws.specs.Codec.Sections.{length-header, jobFor}
+use Rattle.laws.specs.Codec.Sections.{jobFor}
 use Rattle.laws.specs.Codec.Forth.{directory-forth, table-forth, encode-decode}
 
 -- an operation not begun is not under way
@@ -36,8 +35,7 @@ unfolding result resultOf start if
 unmoved-file j e = rw (unmoved j e, none-under (length (j .ops)))
 
 no-member : {A : Type 0} (l : List A) → length l ≡ 0 → l ≡ []
-no-member [] e = refl
-no-member (x ∷ l) e = absurd (omega arith)
+no-member l e = drop-of-length-le l {i = 0} (omega arith)
 
 -- THE RESULT'S FILE IS THE ONE THAT CAME IN
 pub no-turns : (b : List ℕ) → headerOf b .turns ≡ 0 → result (jobOf b) .file ≡ some (jobOf b .file)
@@ -59,11 +57,6 @@ module _ (b : List ℕ) (bytes : AreBytes b) (accepted : jobFault b ≡ none) wh
     where
       between : 2 * 2 ^ headerOf b .g + pageSize (headerOf b .c) * headerOf b .limit ≡ opsOffset (headerOf b) - headerSize
       between = omega arith
-
-  pub sections-kept : drop headerSize (encodeFile (fileOf b)) ≡ take (opsOffset (headerOf b) - headerSize) (drop headerSize b)
-  sections-kept =
-      let h = headerFor (fileOf b) 0 0 in
-      ap (drop headerSize) file-kept ∙ drop-at (headerBytes h) _ headerSize (length-header h)
 
   -- so the result's charge file, where there are no turns
   pub no-turns-bytes

@@ -4,7 +4,7 @@ use Prim.Native.Nat.{ℕ, zero, suc, _<_}
 use mathlib.Core.Path.{_≡_, refl, ap}
 use mathlib.Core.Logic.{_↔_, Iff·rfl}
 use mathlib.Core.List.{List, [], _∷_}
-use mathlib.Core.Bool.{Bool, true, false, _||_}
+use mathlib.Core.Bool.{Bool, false, _||_}
 use mathlib.Core.Option.{Option, none, some}
 use native.Mathlib.Omega.{arith}
 use lib.ListN.{length, getD}
@@ -83,13 +83,3 @@ module _ {A : Type 0} where
       : (f : ℕ → A → Bool) (xs : List A) (d : A) → anyOf f 0 xs ≡ false ↔ ((k : ℕ) → k < length xs → f k (getD xs k d) ≡ false)
   any-none f [] d = (λ e k l. absurd (omega arith), λ h. any-nil f)
   any-none f (x ∷ xs) d = simp (any-cons, or-no, any-none (λ k. f (suc k)) xs d) (by-places (λ k y. f k y ≡ false) x xs d)
-
-  -- the test holds of member k
-  pub any-at : (f : ℕ → A → Bool) (xs : List A) (d : A) (k : ℕ) → k < length xs → f k (getD xs k d) ≡ true → anyOf f 0 xs ≡ true
-  any-at f [] d k l e = absurd (omega arith)
-  any-at f (x ∷ xs) d zero l e = rw (any-cons, e)
-  any-at f (x ∷ xs) d (suc k) l e = rw (any-cons, any-at (λ q. f (suc q)) xs d k (omega arith) e) (or-true (f 0 x))
-    where
-      or-true : (t : Bool) → (t || true) ≡ true
-      or-true true = refl
-      or-true false = refl

@@ -62,7 +62,7 @@ pub count-full
 count-full c n p r h = ap (λ (t : Grown). length (t .news)) (grow-full c n p r h) ∙ joined-count _ _ _
 
 -- the number of splits of a full page whose records share its depth with the call
-pub grow-count
+grow-count
     : (c n : ℕ) (p : Page) (r : Rec)
     → p .depth + n ≤ 32
     → length (p .records) ≡ c

@@ -1,6 +1,6 @@
--- The page of a split is full on each of its turns, from turn (d) until the old page is written. So a split has new pages, and how many is
--- settled by the leading bits that the call shares with the page's records.
-use Prim.Native.Nat.{ℕ, zero, suc, _<_, _≤_}
+-- The page of a split is full on each of its turns, from turn (d) until the old page is written. So the number of its new pages is settled by
+-- the leading bits that the call shares with the page's records.
+use Prim.Native.Nat.{ℕ, zero, suc, _≤_}
 use mathlib.Core.Path.{_≡_, refl, sym, _∙_}
 use mathlib.Core.Logic.{inl}
 use mathlib.Core.List.{List}
@@ -22,14 +22,14 @@ use Rattle.spec.specs.File.{File, pageAt}
 use Rattle.spec.specs.Job.{Job, noOp}
 use Rattle.spec.specs.Split.{splitCount}
 use Rattle.spec.specs.State.{State, same, Move, go}
-use Rattle.spec.specs.Turn.{recOf, planOf, newCount, begin, looked, reread, placed, decided, written, verified, oldWritten, heldTurn, splitTurn, turn}
+use Rattle.spec.specs.Turn.{newCount, begin, looked, reread, placed, decided, written, verified, oldWritten, heldTurn, splitTurn, turn}
 use Rattle.spec.specs.Run.{tableAfter, fileAfter, rowOf, stageOf, step, start}
 use Rattle.spec.specs.Proper.{PageOk, Fit, FileOk}
 use Rattle.spec.specs.Claims.{stateAt}
 use Rattle.laws.specs.Tools.{if-case}
 use Rattle.laws.specs.Turns.Prefix.{fit-32}
 use Rattle.laws.specs.Turns.Shared.{allShare-least}
-use Rattle.laws.specs.Turns.Count.{count-full, new-count}
+use Rattle.laws.specs.Turns.Count.{new-count}
 use Rattle.laws.specs.Turns.Rows.{stage-after, step-case, first-row}
 use Rattle.laws.specs.Turns.Locks.{Holds}
 use Rattle.laws.specs.Turns.Good.{Fine, Good}
@@ -170,10 +170,6 @@ full j ok (suc t) l = rw (stateAt-suc j t l) (step-full (j .ops) _ (who j t) (wh
 
 -- a full page that an insert splits
 module _ (f : File) (op : Op) (x : ℕ) (h : FullPage f x) where
-  pub full-splits : 0 < newCount f op x
-  unfolding newCount planOf
-  full-splits = let z = count-full (f .c) (f .g) (pageAt f x) (recOf op) h in omega arith
-
   pub full-count : Fit f → PageOk (f .g) (f .c) (pageAt f x) → Plan f op x → newCount f op x ≡ splitCount (pageAt f x) (op .call)
   full-count fit ok pl =
       new-count f op x fit ok (pl .here) h

@@ -12,28 +12,21 @@ use lib.Dec.{eqb}
 use borrow.Author.Tests.{eq-eqb, ne-eqb}
 use Rattle.spec.specs.declared.Rec.{Rec}
 use Rattle.spec.specs.declared.Op.{Op}
-use Rattle.spec.specs.declared.Part.the-variants.{WriteEntry}
-use Rattle.spec.specs.declared.Stage.the-variants.{Split}
 use Rattle.spec.specs.Basics.{if, Each}
 use Rattle.spec.specs.Key.{index, bit, begins}
 use Rattle.spec.specs.File.{Page, File, zeroPage, pageAt}
-use Rattle.spec.specs.Job.{noOp}
 use Rattle.spec.specs.Split.{half, Grown, joined, grow, newOwner}
-use Rattle.spec.specs.State.{State}
 use Rattle.spec.specs.Turn.{homeOf, recOf, planOf, newCount, goesTo}
-use Rattle.spec.specs.Run.{stageOf}
 use Rattle.spec.specs.Proper.{In, Fit, PageOk}
 use Rattle.laws.specs.Tools.{if-case, if-true, if-false, beq-refl, first, rest, each-imp, each-at}
 use Rattle.laws.specs.Key.{index-onto}
 use Rattle.laws.specs.Turns.Prefix.{fit-32, index-in, index-prefix, begins-in, in-begins, of-half, to-half}
 use Rattle.laws.specs.Turns.Owners.{newOwner-at, newOwner-none}
 use Rattle.laws.specs.Turns.Grow.{grow-serves, grow-covers, grow-apart}
-use Rattle.laws.specs.Turns.Good.{Fine, Good}
-use Rattle.laws.specs.Turns.Work.{Plan, Work}
+use Rattle.laws.specs.Turns.Work.{Plan}
 use Rattle.laws.specs.Turns.SplitPlan.{made}
-use Rattle.laws.specs.Turns.Does.{Tidy}
 use Rattle.laws.specs.Turns.Interval.{interval-begins, goes-in}
-use Rattle.laws.specs.Turns.Depths.{grow-deep, joined-own, plan-most}
+use Rattle.laws.specs.Turns.Depths.{grow-deep, joined-own}
 
 -- bit number d of entry e, of a directory of g bits
 unfoldable pub entryBit : ℕ → ℕ → ℕ → Bool
@@ -220,63 +213,13 @@ newOwner-by g c m b p r e w d ds l h =
     let i = begins-in g p (k .0) deep w (rw (k .1) h) in
     rw (k .1) at (by-last b _ _ (grow-by g c m b 1 0 b p r (k .0) w d i (omega arith) ds))
 
--- the call's own entry is on the call's side throughout: no split puts it on the side of bit 1 exactly if those bits of the call are 0
-last-ge : (g call e n d k last : ℕ) → last ≤ k → last ≤ lastOne g call e n d k last
-unfolding lastOne
-last-ge g call e zero d k last l = omega arith
-last-ge g call e (suc n) d k last l =
-    let so = if (entryBit g d e) k last in
-    let h : (last ≤ so) × (so ≤ k) = if-case (λ v. (last ≤ v) × (v ≤ k)) (λ q. omega arith) (λ q. omega arith) in
-    if-case (λ v. last ≤ v) (λ q. let ih = last-ge g call e n (suc d) (suc k) so (omega (arith, h .1)) in omega (arith, h .0)) (λ q. h .0)
-
-zeros-last
-    : (g call n d k last : ℕ)
-    → g ≤ 32
-    → d + n ≤ g
-    → ((i : ℕ) → d ≤ i → i < d + n → bit i call ≡ false)
-    → lastOne g call (index g call) n d k last ≡ last
-unfolding lastOne if
-zeros-last g call zero d k last w l h = refl
-zeros-last g call (suc n) d k last w l h =
-    let z = h d (omega arith) (omega arith) in
-    last-on g call (index g call) n d k last false (entry-bit g d call (omega arith) w ∙ z) z
-    ∙ zeros-last g call n (suc d) (suc k) last w (omega arith) (λ i a b. h i (omega arith) (omega arith))
-
-last-zeros
-    : (g call n d k : ℕ)
-    → g ≤ 32
-    → d + n ≤ g
-    → 0 < k
-    → lastOne g call (index g call) n d k 0 ≡ 0
-    → (i : ℕ)
-    → d ≤ i
-    → i < d + n
-    → bit i call ≡ false
-unfolding if
-last-zeros g call zero d k w l p h i a b = absurd (omega arith)
-last-zeros g call (suc n) d k w l p h i a b =
-    two (bit d call) refl (λ z r. last-zeros g call n (suc d) (suc k) w (omega arith) (omega arith) z i r (omega arith))
-  where
-    two
-        : (v : Bool)
-        → bit d call ≡ v
-        → (lastOne g call (index g call) n (suc d) (suc k) 0 ≡ 0 → d < i → bit i call ≡ false)
-        → bit i call ≡ false
-    two true z later =
-        let on = last-on g call (index g call) n d k 0 true (entry-bit g d call (omega arith) w ∙ z) z in
-        let ge = last-ge g call (index g call) n (suc d) (suc k) k (omega arith) in
-        absurd (omega arith)
-    two false z later =
-        let on = last-on g call (index g call) n d k 0 false (entry-bit g d call (omega arith) w ∙ z) z in
-        by-cases (ℕ-discrete i d) (λ (q : i ≡ d). rw q z) (λ q. later (sym on ∙ h) (omega arith))
-
 -- a split of page x that the depth allows: the last split that puts entry e on the side of bit 1
 abbrev pub lastSplit : File → Op → ℕ → ℕ → ℕ
 lastSplit f op x e = lastOne (f .g) (op .call) e (newCount f op x) (pageAt f x .depth) 1 0
 
 module _ (f : File) (op : Op) (x : ℕ) (fit : Fit f) (ok : PageOk (f .g) (f .c) (pageAt f x)) (pl : Plan f op x) where
   -- where an entry that the page's pattern begins goes
-  pub goes-by
+  goes-by
       : (b e : ℕ)
       → e < 2 ^ f .g
       → begins (f .g) (pageAt f x .depth) (pageAt f x .pattern) e ≡ true
@@ -304,27 +247,3 @@ module _ (f : File) (op : Op) (x : ℕ) (fit : Fit f) (ok : PageOk (f .g) (f .c)
     where
       g : goesTo f op x b (homeOf f op) ≡ byLast b (lastSplit f op x (homeOf f op))
       g = goes-by b (homeOf f op) (index-in f fit (op .call)) (in-begins (f .g) (pageAt f x) (op .call) (ok .deep) (fit-32 f fit) (pl .here))
-
-  -- that is, if no bit of the call is 1, of those that the splits go by
-  pub own-page
-      : (b : ℕ)
-      → (goesTo f op x b (homeOf f op) ≡ 0)
-      ↔ ((d : ℕ) → pageAt f x .depth ≤ d → d < pageAt f x .depth + newCount f op x → bit d (op .call) ≡ false)
-  unfolding homeOf
-  own-page b =
-      let most = plan-most f op x fit ok pl in (
-        λ z. last-zeros (f .g) (op .call) (newCount f op x) (pageAt f x .depth) 1 (fit-32 f fit) most (omega arith) (own-stays b .0 z),
-        λ h. own-stays b .1 (zeros-last (f .g) (op .call) (newCount f op x) (pageAt f x .depth) 1 0 (fit-32 f fit) most h),
-      )
-
--- the page that the entry being written comes to name, with the number n of new pages that the stage has
-pub split-goes
-    : (ops : List Op) (s : State) (i x b n j : ℕ)
-    → Good ops s
-    → Tidy ops s
-    → stageOf s i ≡ Split x b n (WriteEntry j)
-    → goesTo (s .file) (getD ops i noOp) x b j ≡ b + lastOne (s .file .g) (getD ops i noOp .call) j n (pageAt (s .file) x .depth) 1 0
-split-goes ops s i x b n j good tidy e =
-    let fi : Fine (s .file) (getD ops i noOp) (Split x b n (WriteEntry j)) = rw e at (good .fine i) in
-    let w : Work (s .file) (getD ops i noOp) (Split x b n (WriteEntry j)) = rw e at (tidy .work i) in
-    rw (fi .0 .count) (goes-last (s .file) (getD ops i noOp) x (good .fit) (tidy .pages x) (w .0) b j (w .1 .2) (fi .1) .0)

@@ -33,7 +33,7 @@ use Rattle.laws.specs.Turns.SplitPlan.{made, serves, stays-old, old-stay
 use Rattle.laws.specs.Turns.Does.{Tidy}
 use Rattle.laws.specs.Turns.Owned.{OwnsFrom}
 use Rattle.laws.specs.Turns.Settled.{Settled}
-use Rattle.laws.specs.Turns.Depths.{oldSplits, Lowest, plan-low, plan-deeper}
+use Rattle.laws.specs.Turns.Depths.{Lowest, plan-low, plan-deeper}
 
 -- the first entry of a page's range, of a directory of g bits, and the first one past it
 unfoldable pub startOf : ℕ → Page → ℕ
@@ -42,23 +42,23 @@ startOf g p = p .pattern * 2 ^ (g - p .depth)
 unfoldable pub endOf : ℕ → Page → ℕ
 endOf g p = (p .pattern + 1) * 2 ^ (g - p .depth)
 
-end-start : (g : ℕ) (p : Page) → endOf g p ≡ startOf g p + 2 ^ (g - p .depth)
+pub end-start : (g : ℕ) (p : Page) → endOf g p ≡ startOf g p + 2 ^ (g - p .depth)
 unfolding startOf endOf
 end-start g p = omega arith
 
 -- a page begins exactly the entries of its range
-begins-range : (g : ℕ) (p : Page) (e : ℕ) → begins g (p .depth) (p .pattern) e ≡ true → (startOf g p ≤ e) × (e < endOf g p)
+pub begins-range : (g : ℕ) (p : Page) (e : ℕ) → begins g (p .depth) (p .pattern) e ≡ true → (startOf g p ≤ e) × (e < endOf g p)
 unfolding begins startOf endOf
 begins-range g p e h =
     let z : e / 2 ^ (g - p .depth) ≡ p .pattern = eqb-true _ _ h in
     let pos = pow-pos (g - p .depth) in
     (le-div-iff-mul-le {x = p .pattern} pos .0 (omega arith), div-lt-iff-lt-mul {y = p .pattern + 1} pos .0 (omega arith))
 
-range-begins : (g : ℕ) (p : Page) (e : ℕ) → startOf g p ≤ e → e < endOf g p → begins g (p .depth) (p .pattern) e ≡ true
+pub range-begins : (g : ℕ) (p : Page) (e : ℕ) → startOf g p ≤ e → e < endOf g p → begins g (p .depth) (p .pattern) e ≡ true
 unfolding begins startOf endOf
 range-begins g p e l u = eq-eqb _ _ (div-eq-of-lt-le (2 ^ (g - p .depth)) l u)
 
-end-le : (g : ℕ) (p : Page) → p .depth ≤ g → p .pattern < 2 ^ p .depth → endOf g p ≤ 2 ^ g
+pub end-le : (g : ℕ) (p : Page) → p .depth ≤ g → p .pattern < 2 ^ p .depth → endOf g p ≤ 2 ^ g
 unfolding endOf
 end-le g p d s =
     let e : p .depth + (g - p .depth) ≡ g = omega arith in
@@ -104,25 +104,17 @@ module _ (f : File) (op : Op) (x : ℕ) (fit : Fit f) (ok : PageOk (f .g) (f .c)
   pub interval-lt : 0 < newCount f op x → lo < hi
   interval-lt h = lowest-end (f .g) _ (pageAt f x) old old-deep (plan-low f op x) (first (plan-deeper f op x h))
 
-  pub interval-end : hi ≤ 2 ^ f .g
+  interval-end : hi ≤ 2 ^ f .g
   interval-end = end-le (f .g) (pageAt f x) (ok .deep) (ok .small)
 
   same-start : startOf (f .g) old ≡ startOf (f .g) (pageAt f x)
   same-start = lowest-start (f .g) _ (pageAt f x) old old-deep (plan-low f op x)
 
-  -- the interval's first entry, by the splits that change the old page
-  pub interval-first
-      : lo ≡ startOf (f .g) (pageAt f x) + 2 ^ (f .g - (pageAt f x .depth + oldSplits (op .call) (newCount f op x) (pageAt f x .depth)))
-  interval-first =
-      end-start (f .g) old
-      ∙ ap (λ w. w + 2 ^ (f .g - old .depth)) same-start
-      ∙ ap (λ d. startOf (f .g) (pageAt f x) + 2 ^ (f .g - d)) (plan-low f op x .0)
-
   -- an entry in the interval is of the page, and goes to a new one; and an entry that goes is in the interval
   pub interval-begins : (e : ℕ) → lo ≤ e → e < hi → begins (f .g) (pageAt f x .depth) (pageAt f x .pattern) e ≡ true
   interval-begins e l u = range-begins (f .g) (pageAt f x) e (omega (arith, end-start (f .g) old, same-start)) u
 
-  pub interval-in : (k : ℕ) → lo ≤ index (f .g) k → index (f .g) k < hi → In (pageAt f x) k
+  interval-in : (k : ℕ) → lo ≤ index (f .g) k → index (f .g) k < hi → In (pageAt f x) k
   interval-in k l u = begins-in (f .g) (pageAt f x) k (ok .deep) (fit-32 f fit) (interval-begins _ l u)
 
   call-goes : (b k : ℕ) → lo ≤ index (f .g) k → index (f .g) k < hi → goesTo f op x b (index (f .g) k) ≡ 0 → ⊥
@@ -178,7 +170,7 @@ module _ (f : File) (op : Op) (x : ℕ) (fit : Fit f) (ok : PageOk (f .g) (f .c)
       (λ l. absurd (in-goes 0 k low l (h k from (let t = interval-end in omega arith) (named k from low l))))
       (λ l. sym (if-false _ _ (le-ltb k hi (omega arith)))))
 
-  pub entries-first
+  entries-first
       : (b : ℕ)
       → 0 < newCount f op x
       → ((e : ℕ) → lo ≤ e → e < hi → entryAt f e ≡ x)
@@ -186,7 +178,7 @@ module _ (f : File) (op : Op) (x : ℕ) (fit : Fit f) (ok : PageOk (f .g) (f .c)
   entries-first b h named =
       entries-at b 0 lo (omega arith) (omega arith) (λ e i l. l) (λ e i. named e) ∙ if-true _ _ (lt-ltb _ _ (interval-lt h))
 
-  pub entries-next
+  entries-next
       : (b j : ℕ)
       → lo ≤ j
       → ((e : ℕ) → j < e → e < hi → entryAt f e ≡ x)

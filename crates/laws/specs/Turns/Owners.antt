@@ -2,30 +2,23 @@
 use Prim.Native.Nat.{ℕ, zero, suc, _+_, _<_, _≤_}
 use mathlib.Core.Path.{_≡_, refl, sym, _∙_}
 use mathlib.Core.List.{List, [], _∷_}
-use mathlib.Core.Bool.{Bool, true, false, true≢false}
+use mathlib.Core.Bool.{true, true≢false}
 use native.Mathlib.Omega.{arith}
 use lib.ListN.{length, getD}
-use Rattle.spec.specs.Basics.{if, Each, end, next}
+use Rattle.spec.specs.Basics.{Each, end, next}
 use Rattle.spec.specs.Key.{index, begins}
 use Rattle.spec.specs.File.{Page}
 use Rattle.spec.specs.Split.{newOwner}
 use Rattle.spec.specs.Proper.{In}
-use Rattle.laws.specs.Tools.{if-case, if-true, first, rest, each-at}
+use Rattle.laws.specs.Tools.{if-case, if-true, if-both, first, rest, each-at}
 use Rattle.laws.specs.Turns.Prefix.{begins-in, in-begins}
 
 -- whether an entry goes to a new page does not hang on the new pages' numbers
 pub newOwner-zero : (g : ℕ) (ps : List Page) (a b j : ℕ) → newOwner g ps (suc a) j ≡ 0 → newOwner g ps (suc b) j ≡ 0
-unfolding newOwner if
-newOwner-zero g [] a b j e = refl
-newOwner-zero g (p ∷ ps) a b j e = by (begins g (p .depth) (p .pattern) j) (newOwner-zero g ps (suc a) (suc b) j) e
-  where
-    by
-        : (t : Bool)
-        → (newOwner g ps (suc (suc a)) j ≡ 0 → newOwner g ps (suc (suc b)) j ≡ 0)
-        → if t (suc a) (newOwner g ps (suc (suc a)) j) ≡ 0
-        → if t (suc b) (newOwner g ps (suc (suc b)) j) ≡ 0
-    by true f e = absurd (omega arith)
-    by false f e = f e
+unfolding newOwner
+newOwner-zero g [] a b j = λ e. refl
+newOwner-zero g (p ∷ ps) a b j =
+    if-both (λ x y. x ≡ 0 → y ≡ 0) (λ q e. absurd (omega arith)) (λ q. newOwner-zero g ps (suc a) (suc b) j)
 
 -- y is the number of the new page that entry j goes to: its pattern begins j
 abbrev pub OwnerAt : ℕ → List Page → ℕ → ℕ → Page → ℕ → Type 0

@@ -3,7 +3,7 @@ use Prim.Native.Nat.{ℕ, zero, suc, _+_, _^_, _<_, _≤_, _*_}
 use mathlib.Core.Path.{_≡_, refl, _∙_}
 use mathlib.Core.Logic.{_⊎_, inl, inr, ⊎-elim, by-cases}
 use mathlib.Core.List.{[], _∷_}
-use mathlib.Core.Bool.{Bool, true, false, true≢false, false≢true, not}
+use mathlib.Core.Bool.{Bool, true, false, not, not-eq-not}
 use mathlib.Core.Option.{none, some}
 use native.Mathlib.Omega.{arith}
 use native.Mathlib.Decide.{decLe}
@@ -86,10 +86,6 @@ pub record Made (g c : ℕ) (r : Rec) (q : Page) : Type 0 where
   pub ok : PageOk g c q
   pub there : In q (r .call) → findIn (q .records) (r .call) ≡ some r
 
-not-self : (v : Bool) → v ≡ not v → ⊥
-not-self true e = true≢false e
-not-self false e = false≢true e
-
 ready-half
     : (g c n : ℕ) (p : Page) (r : Rec)
     → g ≤ 32
@@ -139,7 +135,7 @@ grow-made g c (suc n) p r w h i a d =
     joined-each v _ _
     (record {
       ok = half-ok g c (not v) p h l w;
-      there = λ j. absurd (not-self v (of-half (not v) (p .depth) (r .call) (p .pattern) l' j .0));
+      there = λ j. absurd (not-eq-not {a = v} {b = v} .1 refl (of-half (not v) (p .depth) (r .call) (p .pattern) l' j .0));
     })
     (grow-made g c n (half v p) r w (half-ok g c v p h l w) (to-half (p .depth) (r .call) (p .pattern) l' i)
     (withBit-find v (p .depth) (p .records) (r .call) refl ∙ a)

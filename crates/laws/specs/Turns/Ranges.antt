@@ -2,13 +2,14 @@
 use Prim.Native.Nat.{ℕ, zero, suc, _+_, _<_, _≤_}
 use mathlib.Core.Path.{_≡_, refl, sym, _∙_}
 use mathlib.Core.Logic.{_⊎_, inl, inr, Dec·and, by-cases}
-use mathlib.Core.List.{List, [], _∷_}
+use mathlib.Core.List.{List}
 use mathlib.Core.Bool.{Bool, true, false, false≢true}
 use native.Mathlib.Omega.{arith}
 use native.Mathlib.Decide.{ℕ-discrete, decLt, decLe}
 use lib.ListN.{length, getD, set, length-set}
 use lib.Seq.{getD-set-same, getD-set-other, lt-length-set}
 use Rattle.spec.specs.Run.{fill}
+use Rattle.laws.specs.Tools.{within}
 
 -- p is one of the n numbers from a on
 abbrev pub Span : ℕ → ℕ → ℕ → Type 0
@@ -41,10 +42,8 @@ abbrev pub Locked : List Bool → ℕ → Type 0
 Locked l p = getD l p false ≡ true
 
 -- a page that is locked has a lock
-pub locked-lt : (l : List Bool) (p : ℕ) → Locked l p → p < length l
-locked-lt [] p h = absurd (false≢true h)
-locked-lt (a ∷ l) zero h = omega arith
-locked-lt (a ∷ l) (suc p) h = let k = locked-lt l p h in omega arith
+locked-lt : (l : List Bool) (p : ℕ) → Locked l p → p < length l
+locked-lt l p h = within (λ b. b ≡ true) l p false false≢true h
 
 -- the locks before and after a range of them is set
 pub locked-was

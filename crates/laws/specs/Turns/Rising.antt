@@ -285,7 +285,7 @@ tick-rising : (s : State) → Rising s → Rising (tick s)
 unfolding stageOf rowOf
 tick-rising s h = record { within = h .within; higher = h .higher; deeper = h .deeper; reached = h .reached }
 
-pub step-rising : (ops : List Op) (s : State) (i : ℕ) → Good ops s → Tidy ops s → Settled ops s → Rising s → Rising (step ops s i)
+step-rising : (ops : List Op) (s : State) (i : ℕ) → Good ops s → Tidy ops s → Settled ops s → Rising s → Rising (step ops s i)
 step-rising ops s i good tidy settled h =
     step-case Rising ops s i (tick-rising s h)
     (λ lt e. act-rising ops s i _ lt good tidy (i-does ops s i good tidy) (i-writes ops s i good tidy settled) h)

@@ -6,9 +6,8 @@ use mathlib.Core.Logic.{by-cases}
 use mathlib.Core.List.{List, [], _∷_}
 use mathlib.Core.Bool.{Bool, false, true≢false}
 use mathlib.Core.Option.{none}
-use native.Mathlib.Omega.{arith}
-use native.Mathlib.Decide.{ℕ-discrete, decLt}
-use lib.ListN.{length, getD, replicate, List·getD-eq-default}
+use native.Mathlib.Decide.{ℕ-discrete}
+use lib.ListN.{length, getD, replicate}
 use lib.Seq.{getD-set-same, getD-set-other}
 use Rattle.spec.specs.declared.Op.{Op}
 use Rattle.spec.specs.declared.Stage.{Stage}
@@ -18,7 +17,7 @@ use Rattle.spec.specs.Code.{notYet}
 use Rattle.spec.specs.State.{Row, State, Answer, Move, blank, gone}
 use Rattle.spec.specs.Turn.{turn}
 use Rattle.spec.specs.Run.{rowAfter, rowOf, stageOf, idle, tick, act, step, steps}
-use Rattle.laws.specs.Tools.{if-case, replicate-all}
+use Rattle.laws.specs.Tools.{if-case, within, replicate-all}
 
 -- a move that writes neither a page nor an entry
 abbrev pub still : Stage → Answer → ℕ → ℕ → Bool → ℕ → Move
@@ -65,9 +64,7 @@ module _ (s : State) (i : ℕ) (m : Move) (lt : i < length (s .rows)) where
 -- what is read where there is no row
 no-row : (P : Row → Type 0) (s : State) (i : ℕ) → (P gone → ⊥) → P (rowOf s i) → i < length (s .rows)
 unfolding rowOf
-no-row P s i n h =
-    by-cases (decLt i (length (s .rows))) (λ l. l)
-    (λ l. absurd (n (rw (List·getD-eq-default (s .rows) gone {n = i} (omega arith)) at h)))
+no-row P s i n h = within P (s .rows) i gone n h
 
 -- an operation that is unfinished, that is not idle or that has a code has a row
 pub stage-row : (s : State) (i : ℕ) → (stageOf s i ≡ Done → ⊥) → i < length (s .rows)

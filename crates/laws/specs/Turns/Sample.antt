@@ -1,19 +1,15 @@
--- Job E's file is proper, so demand 3 is not empty: it holds of job E's operations with any turn list.
+-- Job E's file is proper, so demand 3 is not empty.
 use Prim.Native.Nat.{ℕ, zero, suc, _<_}
 use mathlib.Core.Path.{_≡_, refl, _∙_}
-use mathlib.Core.List.{List, [], _∷_}
+use mathlib.Core.List.{[], _∷_}
 use mathlib.Core.Bool.{true}
 use native.Mathlib.Omega.{arith}
 use lib.ListN.{getD}
-use Rattle.spec.specs.declared.Op.{Op}
-use Rattle.spec.specs.declared.Kind.the-variants.{Search, Insert, Delete}
 use Rattle.spec.specs.Basics.{if, end, next}
 use Rattle.spec.specs.Key.{index, begins}
 use Rattle.spec.specs.File.{File, zeroPage, pageAt, entryAt, findIn}
 use Rattle.spec.specs.Proper.{empty, more, PageNo, PageOk, FileOk}
-use Rattle.spec.specs.Claims.{Explained}
 use Rattle.laws.specs.Key.{index-lt}
-use Rattle.laws.specs.Turns.Theorem.{explained}
 
 abbrev pub fileE : File
 fileE =
@@ -29,15 +25,6 @@ fileE =
           ∷ zeroPage
           ∷ [];
     }
-
--- "insert 4 (90), search 3, delete 3, search 3"
-abbrev pub opsE : List Op
-opsE =
-    record { kind = Insert; call = 4; charge = 90 }
-    ∷ record { kind = Search; call = 3; charge = 0 }
-    ∷ record { kind = Delete; call = 3; charge = 0 }
-    ∷ record { kind = Search; call = 3; charge = 0 }
-    ∷ []
 
 zero-index : (k : ℕ) → index 0 k ≡ 0
 zero-index k = let h = index-lt 0 k (omega arith) in omega arith
@@ -90,6 +77,3 @@ fileE-ok =
           once = more refl (more refl empty);
         }
     pages (suc (suc x)) p = absurd (omega arith)
-
-pub explained-E : (ts : List ℕ) → Explained (record { file = fileE; ops = opsE; turns = ts })
-explained-E ts = explained (record { file = fileE; ops = opsE; turns = ts }) fileE-ok

@@ -49,7 +49,7 @@ tally-length m [] e = tally-nil m
 tally-length m (h ∷ hs) e = tally-cons m h hs (first e) ∙ ap suc (tally-length m hs (rest e))
 
 -- how many of the first m operations have a code other than 0
-unfoldable pub answered : State → ℕ → ℕ
+unfoldable answered : State → ℕ → ℕ
 answered s zero = 0
 answered s (suc m) = if (eqb (rowOf s m .code) notYet) (answered s m) (suc (answered s m))
 
@@ -99,7 +99,7 @@ module _ (j : Job) (ok : FileOk (j .file)) where
   w = end-whole j ok
 
   -- the log has a line for each code other than 0, so no more than there are operations
-  pub log-count : length (result j .log) ≡ answered (run j) (length (j .ops))
+  log-count : length (result j .log) ≡ answered (run j) (length (j .ops))
   unfolding result resultOf
   log-count =
       sym (tally-length (length (j .ops)) (logOf (run j)) (each-imp (λ h l. omega (arith, w .rows)) (log-rows (run j))))

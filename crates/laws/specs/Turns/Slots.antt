@@ -1,11 +1,11 @@
 -- The turn on which an entry was changed from a page can be looked up by the entry and the page's depth, in a table with one number for each:
 -- as long as the page's pattern begins the entry no later change has taken its place. So the moment of a search that found a stale record is one
 -- reading. The code keeps such a table, and writes one number on each turn that writes an entry.
-use Prim.Native.Nat.{ℕ, suc, _^_, _<_}
+use Prim.Native.Nat.{ℕ, _^_, _<_}
 use mathlib.Core.Path.{_≡_, refl, sym, ap, _∙_}
 use mathlib.Core.Logic.{⊎-elim}
 use mathlib.Core.List.{List}
-use mathlib.Core.Bool.{Bool, true, false, false≢true, _&&_}
+use mathlib.Core.Bool.{true, false≢true, _&&_}
 use mathlib.Core.Option.{some}
 use native.Mathlib.Omega.{arith}
 use lib.ListN.{length, getD}
@@ -19,13 +19,12 @@ use Rattle.spec.specs.declared.Stage.{Stage}
 use Rattle.spec.specs.declared.Stage.the-variants.{NotBegun, ReadPage, Reread, Lock, Held, Split, Done}
 use Rattle.spec.specs.Basics.{if}
 use Rattle.spec.specs.File.{File, pageAt, entryAt, findIn}
-use Rattle.spec.specs.Job.{Job, noOp}
+use Rattle.spec.specs.Job.{noOp}
 use Rattle.spec.specs.State.{State, Move}
 use Rattle.spec.specs.Turn.{homeOf, entryOf, changedAt, foundMoment, turn}
 use Rattle.spec.specs.Run.{stageOf, idle, act, step, start}
-use Rattle.spec.specs.Proper.{PageOk, FileOk}
-use Rattle.spec.specs.Claims.{stateAt}
-use Rattle.laws.specs.Tools.{if-case, if-true, if-false, and-left, and-right}
+use Rattle.spec.specs.Proper.{PageOk}
+use Rattle.laws.specs.Tools.{if-case, if-true, if-both, and-left, and-right}
 use Rattle.laws.specs.Turns.Prefix.{fit-32, in-begins}
 use Rattle.laws.specs.Turns.Records.{found-in}
 use Rattle.laws.specs.Turns.Rows.{moves-row}
@@ -36,12 +35,10 @@ use Rattle.laws.specs.Turns.Does.{Tidy}
 use Rattle.laws.specs.Turns.Tidy.{i-does}
 use Rattle.laws.specs.Turns.Settled.{Settled}
 use Rattle.laws.specs.Turns.Reads.{reading}
-use Rattle.laws.specs.Turns.States.{who, stateAt-suc}
-use Rattle.laws.specs.Turns.Whole.{whole}
 use Rattle.laws.specs.Turns.Depths.{plan-most}
 use Rattle.laws.specs.Turns.Writes.{BeginsAt, i-writes}
 use Rattle.laws.specs.Turns.Followed.{Followed}
-use Rattle.laws.specs.Turns.Rising.{left, Left, Rising, left-case, rising}
+use Rattle.laws.specs.Turns.Rising.{left, Left, Rising, left-case}
 
 -- a table of turn numbers, by entry and depth
 abbrev pub Table : Type 0
@@ -159,18 +156,6 @@ slots-same slot slot' s ok r a h =
           a e _ (r .within e x k) (omega (arith, ok (entryAt (s .file) e) .deep)) ∙ h .turn e x k b;
     }
 
--- the next turn of a job
-pub slots-suc
-    : (j : Job)
-    → FileOk (j .file)
-    → (t : ℕ) (slot : Table)
-    → t < length (j .turns)
-    → Slots slot (stateAt j t)
-    → Slots (slotAfter (stateAt j t) (stageOf (stateAt j t) (who j t)) slot) (stateAt j (suc t))
-slots-suc j ok t slot l h =
-    let w = whole j ok t (omega arith) in
-    rw (stateAt-suc j t l) (step-slots (j .ops) (stateAt j t) (who j t) slot (w .good) (w .tidy) (w .settled) (rising j ok t (omega arith)) h)
-
 -- a search that finds its call in page x
 module _ (ops : List Op) (s : State) (i x : ℕ) (r : Rec) (slot : Table)
     (good : Good ops s)
@@ -208,11 +193,7 @@ module _ (ops : List Op) (s : State) (i x : ℕ) (r : Rec) (slot : Table)
     -- so its moment is this turn's number, or the table's
     pub found-moment : foundMoment s op x ≡ if (eqb (entryOf f op) x) (s .now) (slot (homeOf f op) (pageAt f x .depth))
     unfolding foundMoment
-    found-moment = by (eqb (entryOf f op) x) refl
-      where
-        by : (t : Bool) → eqb (entryOf f op) x ≡ t → foundMoment s op x ≡ if (eqb (entryOf f op) x) (s .now) (slot (homeOf f op) (pageAt f x .depth))
-        by true e = if-true _ _ e ∙ sym (if-true _ _ e)
-        by false e = if-false _ _ e ∙ found-slot (eqb-false _ _ e) .0 ∙ sym (if-false _ _ e)
+    found-moment = if-both (λ u v. u ≡ v) (λ e. refl) (λ e. found-slot (eqb-false _ _ e) .0)
 
 -- the depth of a page that an entry is to leave is below the directory's
 pub entry-slot

@@ -1,9 +1,7 @@
 -- All that holds of every state of a run whose file is proper; and that an answer, once given, stays to the end.
 use Prim.Native.Nat.{ℕ, zero, suc, _+_, _-_, _≤_}
 use mathlib.Core.Path.{_≡_, refl, sym, ap, _∙_}
-use mathlib.Core.Logic.{Dec·and, by-cases}
 use native.Mathlib.Omega.{arith}
-use native.Mathlib.Decide.{decLt, decLe}
 use lib.ListN.{length, getD, length-replicate}
 use Rattle.spec.specs.Key.{index}
 use Rattle.spec.specs.File.{File, pageAt, entryAt}
@@ -13,6 +11,7 @@ use Rattle.spec.specs.State.{State, blank}
 use Rattle.spec.specs.Run.{rowOf, stageOf, step, start, run}
 use Rattle.spec.specs.Proper.{In, PageNo, PageOk, FileOk}
 use Rattle.spec.specs.Claims.{stateAt}
+use Rattle.laws.specs.Codec.InUse.{any-page}
 use Rattle.laws.specs.Turns.Prefix.{fit-32, index-in, begins-in, in-begins}
 use Rattle.laws.specs.Turns.Pages.{empty-ok}
 use Rattle.laws.specs.Turns.Rows.{first-row}
@@ -42,8 +41,7 @@ pub record Whole (j : Job) (s : State) : Type 0 where
 
 -- a proper file: all its pages, in use or not; its entries, by calls
 pub pages-of : (f : File) → FileOk f → (x : ℕ) → PageOk (f .g) (f .c) (pageAt f x)
-pages-of f ok x =
-    by-cases (Dec·and (decLt 0 x) (decLe x (f .used))) (λ h. ok .pages x h) (λ h. rw (ok .unused x h) (empty-ok (f .g) (f .c)))
+pages-of f ok = any-page f (PageOk (f .g) (f .c)) ok (empty-ok (f .g) (f .c)) (ok .pages)
 
 home-of : (f : File) → FileOk f → (k : ℕ) → In (pageAt f (entryAt f (index (f .g) k))) k
 home-of f ok k =

@@ -1,9 +1,9 @@
 -- `table::fill` meets its contract: a walk of its MIR, by hand, with a loop, since the borrow checker covers no `&mut` slice of structs. The borrow of the slice is opened before the loop and closed after it; at k turns the list is k times the row, and then what is left of the list passed.
 -- Assumes nothing.
 use mathlib.Core.Path.{_≡_, refl, sym, _∙_, ap, subst}
-use Prim.Native.Nat.{ℕ, zero, suc, _+_, _-_, _<_, _≤_, _^_}
+use Prim.Native.Nat.{ℕ, zero, suc, _+_, _-_, _<_, _≤_}
 use native.Mathlib.Nat.{not-suc-le-zero, le-of-suc-le-suc, le-antisymm}
-use native.Mathlib.Numerals.{add-one}
+use native.Mathlib.Numerals.{add-one, add-one-le}
 use mathlib.Core.WellFounded.{WellFounded, InvImage·wf}
 use lib.WfN.{Nat·lt-wfRel}
 use lib.Dec.{ltb→lt, nltb→le, lit<}
@@ -51,6 +51,8 @@ use Rattle.table.proofs.fill as fn′
 use Rattle.table.proofs.fill.Statement as stated
 use Rattle.table.proofs.fill.Code as code
 use Rattle.table.proofs.fill.Code.Mir as body
+use Rattle.table.proofs.Rounds.{next-fits}
+use borrow.Author.Count.{falls}
 
 abbrev stayed : Stays (fn′.ended .signature .params) (fn′.ended .kept)
 stayed = (stay-slice (0 ∷ []) tt (plain (λ _. T.the-row)), (stay-none (λ _. T.the-row) yes, tt))
@@ -145,8 +147,8 @@ module _ {M : Type 1} (𝓤 : URA M) (H : Heap 𝓤) (A : Atoms 𝓤) (W : Given
         assigns ! (of-opd ! (load ! (from ! (stop !)) (look ! 15 refl))) (from ! (hop ! (look ! 7 refl) (stop !))) (store-raw ! 0 refl (typed W v _ g)) $
         move ! (1 ∷ []) $ drop ! $ own-row ! v (val v) g $ move ! (1 ∷ 0 ∷ []) $ elem-put ! T.the-row fullShare (zs t) (t .0) v (val v ∷ []) b o within $
         rewrite ! 0 (λ (l : List Row). ‵ (row T.the-row fullShare l b o)) (filled-more v ys (t .0) less) refl $
-        assigns-last ! (bin ! (load ! (from ! (stop !)) (look ! 11 refl)) (lit ! tt) (record { fits = next-fits (t .0) less })) (from ! (stop !)) (store ! 11 refl (tt, record { fits = next-fits (t .0) less })) $
-        forget ! 5 refl $ forget ! 7 refl $ forget ! 9 refl $ again ! Nearer At t (t .0 + 1, next-le (t .0) less) (nearer (t .0) less)))
+        assigns-last ! (bin ! (load ! (from ! (stop !)) (look ! 11 refl)) (lit ! tt) (record { fits = next-fits (t .0) n less (room .0) })) (from ! (stop !)) (store ! 11 refl (tt, record { fits = next-fits (t .0) n less (room .0) })) $
+        forget ! 5 refl $ forget ! 7 refl $ forget ! 9 refl $ again ! Nearer At t (t .0 + 1, add-one-le less) (falls n (t .0) less)))
         (λ h. exec ! (𝓣 .C) (𝓣 .Λ) E body.t-3 (atRet E Post) $
         let end : t .0 ≡ n = le-antisymm (t .1) (nltb→le (t .0) n h) in
         closes-slice ! tt T.the-row ys (zs t) (filled-length v ys (t .0) (t .1)) b o $
@@ -155,15 +157,6 @@ module _ {M : Type 1} (𝓤 : URA M) (H : Heap 𝓤) (A : Atoms 𝓤) (W : Given
         returns ! (look ! 16 refl) $ forget ! 6 refl $ forget ! 8 refl $ forget ! 10 refl $ forget ! 12 refl $ forget ! 14 refl $ forget ! 16 refl $
         move ! (16 ∷ 17 ∷ []) $ free1 ! $ move ! (14 ∷ 15 ∷ []) $ free1 ! $ move ! (12 ∷ 13 ∷ []) $ free1 ! $ move ! (10 ∷ 11 ∷ []) $ free1 ! $ move ! (8 ∷ 9 ∷ []) $ free1 ! $ move ! (6 ∷ 7 ∷ []) $ free1 ! $ move ! (4 ∷ 5 ∷ []) $ free1 ! $ free0 ! $
         keep ! (0 ∷ 1 ∷ 2 ∷ 3 ∷ []) $ by ! (exits (zs t) (ap (filled v ys) end ∙ filled-all v ys) (filled-length v ys (t .0) (t .1)) room))
-      where
-        next-fits : (k : ℕ) → k < n → k + 1 < 2 ^ 64
-        next-fits k l = omega (arith, room .0)
-
-        next-le : (k : ℕ) → k < n → k + 1 ≤ n
-        next-le k l = omega arith
-
-        nearer : (k : ℕ) → k < n → n - (k + 1) < n - k
-        nearer k l = omega arith
 
   walk : (𝓣 : Tables 𝓤 H) → Room T.the-row n → IsRow v (val v) → ent 𝓤 (onEntry 𝓤 H A fn′.signature (κ, tt) (q, tt) a vals) (WpFn 𝓤 H (𝓣 .C) (𝓣 .Λ) code.function (sliceVal (b, o) n ∷ val v ∷ []) Post)
   walk 𝓣 room g =

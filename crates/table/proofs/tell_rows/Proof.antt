@@ -2,8 +2,9 @@
 -- After k rounds the buffers and the count are `tellRows rows k` of those at entry. The shared slice is looked into once a round, and is shut again before the call. All that the proof knows of `tell` is that it meets its contract.
 -- Assumes nothing.
 use mathlib.Core.Path.{_≡_, refl, sym, _∙_, ap, subst}
-use Prim.Native.Nat.{ℕ, _+_, _-_, _*_, _<_, _≤_, _^_}
+use Prim.Native.Nat.{ℕ, _+_, _-_, _*_, _<_, _≤_, _^_, zero-le}
 use native.Mathlib.Nat.{le-antisymm}
+use native.Mathlib.Numerals.{add-one-le}
 use mathlib.Core.WellFounded.{WellFounded, InvImage·wf}
 use mathlib.Core.List.{[], _∷_, List}
 use lib.WfN.{Nat·lt-wfRel}
@@ -53,13 +54,14 @@ use Rattle.table.proofs.Again.{lends, backs}
 use Rattle.table.proofs.Calls.{sure, calls, passes-on}
 use Rattle.table.proofs.Lent.{word, bytes-mut, rows-shr, byte-ref, s, at, vs}
 use Rattle.table.proofs.Telling.{Same, lengths, under-small, none-told, one-more, told-is, below, answer-room, sum-fits, count-fits}
-use Rattle.table.proofs.Rounds.{word-fits, next-fits, next-le, nearer, zero-le}
+use Rattle.table.proofs.Rounds.{word-fits, next-fits}
 use Rattle.table.proofs.Rows.{val, times-fits, typed, own-row, tests}
 use Rattle.table.proofs.tell_rows.Key.{name as #table·tell-rows}
 use Rattle.table.proofs.tell_rows as fn′
 use Rattle.table.proofs.tell_rows.Statement as stated
 use Rattle.table.proofs.tell_rows.Code as code
 use Rattle.table.proofs.tell_rows.Code.Mir as body
+use borrow.Author.Count.{falls}
 
 abbrev stayed : Stays (fn′.ended .signature .params) (fn′.ended .kept)
 stayed = (stay-dropped (shrSliceOf (0 ∷ []) tt (plain (λ _. T.the-row))) yes, (stay-dropped (plain (λ _. usize)) yes, (stay-slice (1 ∷ []) tt (plain (λ _. u8)), (stay-slice (2 ∷ []) tt (plain (λ _. u8)), tt))))
@@ -158,7 +160,7 @@ module _ {M : Type 1} (𝓤 : URA M) (H : Heap 𝓤) (A : Atoms 𝓤) (W : Given
     unfolding afterTurn
     ups t less u e = subst (λ (w : Told). Sq W (Here w (t .0)) (runs (𝓣 .C) (𝓣 .Λ) E counts (anyQ (Turned t)))) (sym e)
         (assigns-last ! (bin ! (load ! (from ! (stop !)) (look ! 24 refl)) (lit ! tt) (record { fits = next-fits (t .0) m less m-fits })) (from ! (stop !)) (store ! 24 refl (tt, record { fits = next-fits (t .0) m less m-fits })) $
-        again ! Nearer At t (t .0 + 1, next-le (t .0) m less) (nearer (t .0) m less))
+        again ! Nearer At t (t .0 + 1, add-one-le less) (falls m (t .0) less))
 
     rounds : (t : Upto) → Sq W (At t) (runs (𝓣 .C) (𝓣 .Λ) E body.turn-1 (anyQ (Turned t)))
     unfolding afterTurn
@@ -224,7 +226,7 @@ module _ {M : Type 1} (𝓤 : URA M) (H : Heap 𝓤) (A : Atoms 𝓤) (W : Given
 
     -- the loop, from what is passed
     begins : Sq W (Here u₀ 0) (runs (𝓣 .C) (𝓣 .Λ) E body.t-3 (atRet E Post))
-    begins = subst (λ (w : Told). Sq W (Here w 0) (runs (𝓣 .C) (𝓣 .Λ) E body.t-3 (atRet E Post))) (none-told ys u₀) (first ! $ blocks ! $ loops ! 𝓣 Nearer Nearer-wf At rounds (0, zero-le m))
+    begins = subst (λ (w : Told). Sq W (Here w 0) (runs (𝓣 .C) (𝓣 .Λ) E body.t-3 (atRet E Post))) (none-told ys u₀) (first ! $ blocks ! $ loops ! 𝓣 Nearer Nearer-wf At rounds (0, zero-le))
 
   walk : (𝓣 : Tables 𝓤 H) → Meets 𝓤 H A tell.signature (𝓣 .C tell.Symbol.name) (tell.spec 𝓤 H A mem run)
       → Room T.the-row n → m < 2 ^ 64 → Room u8 (length (x₁ .now)) → Room u8 (length (x₂ .now)) → (m ≤ n) × (m ≤ 256) × (24 + 8 * m ≤ length (x₁ .now)) × (workSize ≤ length (x₂ .now))

@@ -2,8 +2,9 @@
 -- After k rounds the table and the memory are `runTurns shape ops list k` of those at entry, and are as long as they were: a slice that comes back from a call has its length, so no law of what a turn does is needed. All that the proof knows of the three callees is that they meet their contracts.
 -- Assumes nothing.
 use mathlib.Core.Path.{_≡_, refl, sym, _∙_, ap, subst}
-use Prim.Native.Nat.{ℕ, _+_, _-_, _/_, _<_, _≤_, _^_}
+use Prim.Native.Nat.{ℕ, _+_, _-_, _/_, _<_, _≤_, _^_, zero-le}
 use native.Mathlib.Nat.{le-antisymm}
+use native.Mathlib.Numerals.{add-one-le}
 use mathlib.Core.WellFounded.{WellFounded, InvImage·wf}
 use mathlib.Core.List.{[], _∷_, List}
 use lib.WfN.{Nat·lt-wfRel}
@@ -51,7 +52,7 @@ use Rattle.table.specs.Turns.{Both, both, turnOn, runTurns, Takes}
 use Rattle.table.proofs.Again.{lends, backs}
 use Rattle.table.proofs.Calls.{sure, calls, passes-on}
 use Rattle.table.proofs.Lent.{word, bytes-shr, bytes-mut, rows-mut, byte-ref, row-ref, s, at, vs}
-use Rattle.table.proofs.Rounds.{word-fits, next-fits, next-le, nearer, zero-le}
+use Rattle.table.proofs.Rounds.{word-fits, next-fits}
 use Rattle.table.proofs.Turning.{Same, none-run, one-more, half-fits, turn-room}
 use Rattle.table.proofs.Rows.{tests}
 use Rattle.table.proofs.Shapes.{shapeVal, IsShape, shape-typed, own-shape}
@@ -61,6 +62,7 @@ use Rattle.table.proofs.turns as fn′
 use Rattle.table.proofs.turns.Statement as stated
 use Rattle.table.proofs.turns.Code as code
 use Rattle.table.proofs.turns.Code.Mir as body
+use borrow.Author.Count.{falls}
 
 abbrev stayed : Stays (fn′.ended .signature .params) (fn′.ended .kept)
 stayed = (stay-slice (0 ∷ []) tt (plain (λ _. T.the-row)), (stay-dropped (shrSliceOf (1 ∷ []) tt (plain (λ _. u8))) yes, (stay-dropped (shrSliceOf (2 ∷ []) tt (plain (λ _. u8))) yes, (stay-dropped (plain (λ _. S.the-row)) yes, (stay-slice (3 ∷ []) tt (plain (λ _. u8)), tt)))))
@@ -164,7 +166,7 @@ module _ {M : Type 1} (𝓤 : URA M) (H : Heap 𝓤) (A : Atoms 𝓤) (W : Given
     unfolding afterTurn
     ups t less u e l = subst (λ (w : Both). Sq W (Here w (t .0)) (runs (𝓣 .C) (𝓣 .Λ) E counts (anyQ (Turned t)))) (sym e)
         (assigns-last ! (bin ! (load ! (from ! (stop !)) (look ! 22 refl)) (lit ! tt) (record { fits = next-fits (t .0) m less m-fits })) (from ! (stop !)) (store ! 22 refl (tt, record { fits = next-fits (t .0) m less m-fits })) $
-        again ! Nearer At t (t .0 + 1, (next-le (t .0) m less, subst (λ (w : Both). Same w u₀) e l)) (nearer (t .0) m less))
+        again ! Nearer At t (t .0 + 1, (add-one-le less, subst (λ (w : Both). Same w u₀) e l)) (falls m (t .0) less))
 
     rounds : (t : Upto) → Sq W (At t) (runs (𝓣 .C) (𝓣 .Λ) E body.turn-1 (anyQ (Turned t)))
     unfolding afterTurn
@@ -226,7 +228,7 @@ module _ {M : Type 1} (𝓤 : URA M) (H : Heap 𝓤) (A : Atoms 𝓤) (W : Given
     -- the loop, from what is passed
     begins : Sq W (Here u₀ 0) (runs (𝓣 .C) (𝓣 .Λ) E body.t-3 (atRet E Post))
     begins = subst (λ (w : Both). Sq W (Here w 0) (runs (𝓣 .C) (𝓣 .Λ) E body.t-3 (atRet E Post))) none
-        (first ! $ blocks ! $ loops ! 𝓣 Nearer Nearer-wf At rounds (0, (zero-le m, subst (λ (w : Both). Same w u₀) (sym none) (refl, refl))))
+        (first ! $ blocks ! $ loops ! 𝓣 Nearer Nearer-wf At rounds (0, (zero-le, subst (λ (w : Both). Same w u₀) (sym none) (refl, refl))))
       where
         none : after 0 ≡ u₀
         none = none-run sh (x₁ .now) (x₂ .now) u₀
