@@ -88,10 +88,11 @@ pub record Explained (j : Job) : Type 0 where
   pub noOther : (i : ℕ) → answerOf j i .code ≡ notYet → times i (log j) ≡ 0
   -- "by moment, then operation"
   pub sorted : (p q : ℕ) → p < q → q < length (log j) → Before (lineAt j p) (lineAt j q)
-  -- "At the end a call with its charge is in it exactly when the file after the last turn .. holds them, in whatever order"; "no call twice"
+  -- "At the end a call with its charge is in it exactly when the file after the last turn .. holds them, in whatever order"
   pub held : (r : Rec) → Has r (fed j (length (log j)) .list) ↔ Has r (contents (run j .file))
   -- "a charge file in the result is that file"
   pub charged : (f : File) → result j .file ≡ some f → f ≡ run j .file
+  -- "no call twice": in the list and in the file, at any time
   pub listOnce : (n : ℕ) → NoneTwice (fed j n .list)
   pub fileOnce : (t : ℕ) → t ≤ length (j .turns) → NoneTwice (contents (stateAt j t .file))
   -- real-time order is kept: of two operations in the log, one that ended before the other's first turn stands first

@@ -11,9 +11,9 @@ use native.Mathlib.Decide.{decLe}
 use lib.ListN.{length, take}
 use lib.Pow.{pow-mono}
 use lib.Seq.{take-all, length-take-le}
-use Rattle.spec.specs.Basics.{orElse}
 use lib.Dec.{eqb}
 use borrow.Author.Tests.{ne-eqb}
+use Rattle.spec.specs.Basics.{orElse}
 use Rattle.spec.specs.Job.{Header, versionAt, gAt, cAt, limitAt, usedAt, opCountAt, turnCountAt, directoryOffsetAt, tableOffsetAt, opsOffsetAt, turnsOffsetAt, totalAt, pageSize, tableOffset, opsOffset, turnsOffset, total, fileLength}
 use Rattle.spec.specs.Decode.{headerOf}
 use Rattle.spec.specs.Check.{Fault, short, wrongVersion, overLimit, wrongOffset, numbered, firstRow, jobFault}
@@ -41,13 +41,7 @@ pub total-most : (h : Header) → Limits h → total h ≤ longest
 unfolding total turnsOffset fileLength
 total-most h l = omega (arith, file-most h l, l .ops, l .turns)
 
--- where a row holds, the later ones do not matter
-stops : (n : ℕ) (x : Option ℕ) (y z : Option Fault) → (x ≡ none → ⊥) → orElse (numbered n x) y ≡ orElse (numbered n x) z
-unfolding orElse numbered
-stops n none y z h = absurd (h refl)
-stops n (some p) y z h = refl
-
--- two ways on from a row that does not hold, or no matter if it holds
+-- what comes after a row matters only where the row does not hold
 goes-on : (n : ℕ) (x : Option ℕ) (y z : Option Fault) → (x ≡ none → y ≡ z) → orElse (numbered n x) y ≡ orElse (numbered n x) z
 unfolding orElse numbered
 goes-on n none y z h = h refl
@@ -102,7 +96,7 @@ module _ (b : List ℕ) (n : ℕ) (more : longest < n) (within : n ≤ length b)
       (goes-on 1 _ _ _
       (λ a.
       goes-on 2 _ _ _
-      (λ v. goes-on 3 _ _ _ (λ e. let limits = limits-said b .0 e in rw (offset-kept limits) (stops 4 _ _ _ (offset-wrong limits))))))
+      (λ v. goes-on 3 _ _ _ (λ e. let limits = limits-said b .0 e in rw (offset-kept limits) (goes-on 4 _ _ _ (λ o. absurd (offset-wrong limits o)))))))
 
   -- so both are refused alike
   fault : (o : Option Fault) → jobFault b ≡ o → (f : Fault) × (jobFault b ≡ some f)
