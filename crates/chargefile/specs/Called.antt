@@ -1,14 +1,20 @@
--- What a run called from C or Rust comes to: the run's whole outcome, its number returned, and its place or length in the first lent number.
+-- What the two calls come to for a C or Rust program: the numbers that it gets, and the run's whole outcome.
 use Prim.Native.Nat.{ℕ}
 use mathlib.Core.Path.{_≡_}
 use mathlib.Core.List.{List}
+use Rattle.spec.specs.Check.{jobFault}
+use Rattle.spec.specs.Cases.{checkedOf}
 use Rattle.spec.specs.Outcome.{outcome}
 use Rattle.turn.specs.declared.Row.{Row}
 use Rattle.run.specs.Call.{lent, Settled}
-use Rattle.chargefile.specs.Refusal.{placeIn, numberOf, placeOf}
+use Rattle.chargefile.specs.declared.CallOutcome.{CallOutcome}
+use Rattle.chargefile.specs.Handed.{handed, outcomeOf}
 
--- the bytes b; result buffer, table, memory and lent numbers before (s, x, w, p) and after (t, y, u, q); r is returned
-pub record Called (b s t : List ℕ) (x y : List Row) (w u p q : List ℕ) (r : ℕ) : Type 0 where
+-- The check of the bytes b; r is returned
+pub record CheckCalled (b : List ℕ) (r : CallOutcome) : Type 0 where
+  pub handed : r ≡ handed (outcomeOf (checkedOf (jobFault b)))
+
+-- The run of the bytes b; result buffer, table and memory before (s, x, w) and after (t, y, u); r is returned
+pub record Called (b s t : List ℕ) (x y : List Row) (w u : List ℕ) (r : CallOutcome) : Type 0 where
   pub run : Settled b s t x y w u (outcome (lent s x w) b)
-  pub number : r ≡ numberOf (outcome (lent s x w) b)
-  pub places : q ≡ placeIn p (placeOf (outcome (lent s x w) b))
+  pub handed : r ≡ handed (outcome (lent s x w) b)

@@ -1,2 +1,2 @@
-pub mod Refusal
+pub mod Handed
 pub mod Called

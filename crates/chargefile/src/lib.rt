@@ -3,63 +3,66 @@ use spec::Checked;
 use spec::Outcome;
 use turn::Row;
 ghost use mathlib.Core.Path.{_≡_};
-ghost use Rattle.spec.specs.Check.{jobFault};
-ghost use Rattle.spec.specs.Cases.{checkedOf};
-ghost use Rattle.chargefile.specs.Refusal.{numberFor, placesAfter, placeIn, numberOf, placeOf};
-ghost use Rattle.chargefile.specs.Called.{Called};
+ghost use Rattle.chargefile.specs.Handed.{outcomeOf, handed};
+ghost use Rattle.chargefile.specs.Called.{CheckCalled, Called};
 
-// The place goes into the first lent number, if one is lent.
-fn put_place(places: &mut [u64], place: usize)
-    ensures { λ _. ⌜ now (places .exit) ≡ placeIn (now (places .entry)) place ⌝ }
-{
-    if 0 < places.len() {
-        places[0] = place as u64;
-    }
+// What a call comes to. refusal 0: done, and length is the output's; else its number, with place, and length 0.
+// It is given by value, so that a refused call has written to no lent memory whatever.
+#[repr(C)]
+pub struct CallOutcome {
+    pub refusal: u64,
+    pub place: u64,
+    pub length: u64,
 }
 
-// The check of a job's bytes, rows 1 to 10: 0, or the number of the first fault, whose place is written to `places`.
-#[no_mangle]
-pub extern "C" fn chargefile_check(job: &[u8], places: &mut [u64]) -> u64
-    ensures { λ r. ⌜ (r ≡ numberFor (checkedOf (jobFault (now (job .entry))))) × (now (places .exit) ≡ placesAfter (checkedOf (jobFault (now (job .entry)))) (now (places .entry))) ⌝ }
-{
-    let c = job::check(job);
-    match c {
-        Checked::Accepted => 0,
-        Checked::Refused(number, place) => {
-            put_place(places, place);
-            number as u64
-        }
-    }
-}
-
-// The number of an outcome, 0 for a run; its place, or the length of the result, goes into the first lent number.
-fn told(o: Outcome, places: &mut [u64]) -> u64
-    ensures { λ r. ⌜ (r ≡ numberOf o) × (now (places .exit) ≡ placeIn (now (places .entry)) (placeOf o)) ⌝ }
+// The outcome of any call, in the numbers that its caller gets.
+fn handed(o: Outcome) -> CallOutcome
+    ensures { λ r. ⌜ r ≡ handed o ⌝ }
 {
     match o {
-        Outcome::Ran(length) => {
-            put_place(places, length);
-            0
-        }
-        Outcome::Refused(number, place) => {
-            put_place(places, place);
-            number as u64
-        }
+        Outcome::Ran(length) => CallOutcome {
+            refusal: 0,
+            place: 0,
+            length: length as u64,
+        },
+        Outcome::Refused(number, place) => CallOutcome {
+            refusal: number as u64,
+            place: place as u64,
+            length: 0,
+        },
     }
 }
 
-// A job checked and run: 0, and the length of its result in `places`; or the number of its refusal, and its place there. `rows` has a row for
-// each operation, `memory` at least 24,576 bytes; a refused job has written to none of `result`, `rows` and `memory`.
+// A check as an outcome: it writes no output.
+fn outcome_of(c: Checked) -> Outcome
+    ensures { λ r. ⌜ r ≡ outcomeOf c ⌝ }
+{
+    match c {
+        Checked::Accepted => Outcome::Ran(0),
+        Checked::Refused(number, place) => Outcome::Refused(number, place),
+    }
+}
+
+// The check of a job's bytes, rows 1 to 10.
+#[no_mangle]
+pub extern "C" fn chargefile_check(job: &[u8]) -> CallOutcome
+    ensures { λ r. ⌜ CheckCalled (now (job .entry)) r ⌝ }
+{
+    let c = job::check(job);
+    let o = outcome_of(c);
+    handed(o)
+}
+
+// A job checked, run, and its result written. `rows` has a row for each operation, `memory` at least 24,576 bytes.
 #[no_mangle]
 pub extern "C" fn chargefile_run(
     job: &[u8],
     result: &mut [u8],
     rows: &mut [Row],
     memory: &mut [u8],
-    places: &mut [u64],
-) -> u64
-    ensures { λ r. ⌜ Called (now (job .entry)) (now (result .entry)) (now (result .exit)) (now (rows .entry)) (now (rows .exit)) (now (memory .entry)) (now (memory .exit)) (now (places .entry)) (now (places .exit)) r ⌝ }
+) -> CallOutcome
+    ensures { λ r. ⌜ Called (now (job .entry)) (now (result .entry)) (now (result .exit)) (now (rows .entry)) (now (rows .exit)) (now (memory .entry)) (now (memory .exit)) r ⌝ }
 {
     let o = run::run(job, result, rows, memory);
-    told(o, places)
+    handed(o)
 }
