@@ -10,18 +10,18 @@
  *
  *   - Any bytes may be handed over as a job. A call always ends, with a result or with one numbered
  *     refusal.
- *   - A refused job has written nothing to the result buffer, the rows or the working memory.
+ *   - A refused job has written to no lent memory whatever: every lent byte and row is what it was.
+ *     (Number and place of the refusal are returned by value.)
  *   - The job's own bytes are never written.
  *   - A job that meets no row of the refusal table is run, and the log explains every answer.
  *
  * The caller's part, which no proof of the library can see to:
  *
- *   - Each pointer leads to as many bytes, rows or numbers as the length beside it says. Lengths of
- *     `rows` and `places` count rows and numbers, not bytes. Where a length is 0 the pointer is not
- *     followed and may be NULL.
+ *   - Each pointer leads to as many bytes or rows as the length beside it says. The length of `rows`
+ *     counts rows, not bytes. Where a length is 0 the pointer is not followed and may be NULL.
  *   - No two of the lent parts overlap, and nobody else writes to them during the call.
- *   - `rows` is aligned to 4 bytes and `places` to 8, as the compiler aligns arrays of these types.
- *     Job, result and working memory are bytes and need no alignment.
+ *   - `rows` is aligned to 4 bytes, as the compiler aligns an array of this type. Job, result and
+ *     working memory are bytes and need no alignment.
  *
  * The library keeps nothing between calls, allocates nothing, reads no clock and takes no lock of
  * the system. Two threads may call it at once: they may share a job, and nothing else. It is built
@@ -42,9 +42,12 @@
 extern "C" {
 #endif
 
-/* ---- Limits. A job with a count outside them is refused (CHARGEFILE_REFUSED_LIMIT). */
+/* ---- Versions. A job of another version is refused (CHARGEFILE_REFUSED_VERSION). */
 
-#define CHARGEFILE_VERSION 1u /* of jobs and of results */
+#define CHARGEFILE_JOB_VERSION 1u    /* of jobs, and so of charge files */
+#define CHARGEFILE_RESULT_VERSION 1u /* of results */
+
+/* ---- Limits. A job with a count outside them is refused (CHARGEFILE_REFUSED_LIMIT). */
 
 #define CHARGEFILE_DEPTH_MAX 8u /* global depth g, 0 to 8: the directory has 2^g entries */
 #define CHARGEFILE_CAPACITY_MIN 1u
@@ -230,19 +233,27 @@ typedef struct chargefile_row {
     uint16_t moment; /* the turn number of its line in the log */
 } chargefile_row;
 
-/* Stops a build whose compiler lays the row out otherwise, or for a machine that the library is
- * not built for. */
+/*
+ * What a call comes to. Refusal 0: done, and length is the output's; else its number, with place,
+ * and length 0.
+ */
+typedef struct chargefile_outcome {
+    uint64_t refusal; /* CHARGEFILE_ACCEPTED (0), or the number of the refusal */
+    uint64_t place;   /* of the refusal; 0 where it is done */
+    uint64_t length;  /* of the output, in bytes; 0 where it is refused */
+} chargefile_outcome;
+
+/* Stops a build whose compiler lays these out otherwise, or for a machine that the library is not
+ * built for. */
 typedef char chargefile_row_has_20_bytes[sizeof(chargefile_row) == 20 ? 1 : -1];
+typedef char chargefile_outcome_has_24_bytes[sizeof(chargefile_outcome) == 24 ? 1 : -1];
 typedef char chargefile_size_has_8_bytes[sizeof(size_t) == 8 ? 1 : -1];
 
 /*
- * Checks the job_length bytes at `job`, refusals 1 to 10.
- *
- * Returns CHARGEFILE_ACCEPTED (0), and `places` is untouched; or the number of the refusal, and its
- * place is written to places[0], if places_length is not 0. Nothing else is written.
+ * Checks the job_length bytes at `job`, refusals 1 to 10. Nothing is written; a check has no
+ * output, so the length is 0.
  */
-uint64_t chargefile_check(const uint8_t *job, size_t job_length, uint64_t *places,
-                          size_t places_length);
+chargefile_outcome chargefile_check(const uint8_t *job, size_t job_length);
 
 /*
  * Checks the job as chargefile_check does, then what is lent (refusal 11), runs it and writes its
@@ -251,23 +262,19 @@ uint64_t chargefile_check(const uint8_t *job, size_t job_length, uint64_t *place
  * Lent:
  *   result   at least chargefile_result_size(job, job_length) bytes;
  *   rows     at least as many rows as the job has operations;
- *   memory   at least CHARGEFILE_MEMORY_SIZE bytes;
- *   places   1 number, or none.
+ *   memory   at least CHARGEFILE_MEMORY_SIZE bytes.
  * More may be lent. What they hold beforehand does not matter.
  *
- * Returns 0 where the job was run. Then
- *   - the result stands at the start of `result`, and its length in places[0], if places_length is
- *     not 0 (the result's own field at CHARGEFILE_RESULT_AT_TOTAL says the same);
+ * Refusal 0: the job was run. Then
+ *   - the result stands at the start of `result`, and `length` is its length (the result's own field
+ *     at CHARGEFILE_RESULT_AT_TOTAL says the same);
  *   - the bytes of `result` past that length keep their values;
  *   - every row of `rows` and every byte of `memory` is zero, also past what the job needed.
- * Else it returns the number of the refusal, and its place is written to places[0], if
- * places_length is not 0; `result`, `rows` and `memory` are as they were.
- * Of `places`, only the first number is ever written.
+ * Any other number: `result`, `rows` and `memory` are as they were.
  */
-uint64_t chargefile_run(const uint8_t *job, size_t job_length, uint8_t *result,
-                        size_t result_length, chargefile_row *rows, size_t rows_length,
-                        uint8_t *memory, size_t memory_length, uint64_t *places,
-                        size_t places_length);
+chargefile_outcome chargefile_run(const uint8_t *job, size_t job_length, uint8_t *result,
+                                  size_t result_length, chargefile_row *rows, size_t rows_length,
+                                  uint8_t *memory, size_t memory_length);
 
 #ifdef __cplusplus
 }

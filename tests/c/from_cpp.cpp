@@ -1,11 +1,17 @@
 // The header must compile as C++, and its calls must link there: that is what `extern "C"` is for.
 #include "from_cpp.h"
 
-#include "chargefile.h"
-
-uint64_t cpp_check(const uint8_t *job, size_t job_length, uint64_t *places, size_t places_length)
+chargefile_outcome cpp_check(const uint8_t *job, size_t job_length)
 {
-    return chargefile_check(job, job_length, places, places_length);
+    return chargefile_check(job, job_length);
+}
+
+chargefile_outcome cpp_run(const uint8_t *job, size_t job_length, uint8_t *result,
+                           size_t result_length, chargefile_row *rows, size_t rows_length,
+                           uint8_t *memory, size_t memory_length)
+{
+    return chargefile_run(job, job_length, result, result_length, rows, rows_length, memory,
+                          memory_length);
 }
 
 size_t cpp_result_size(const uint8_t *job, size_t job_length)
@@ -16,4 +22,9 @@ size_t cpp_result_size(const uint8_t *job, size_t job_length)
 size_t cpp_row_size(void)
 {
     return sizeof(chargefile_row);
+}
+
+size_t cpp_outcome_size(void)
+{
+    return sizeof(chargefile_outcome);
 }

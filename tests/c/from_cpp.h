@@ -2,16 +2,19 @@
 #ifndef FROM_CPP_H
 #define FROM_CPP_H
 
-#include <stddef.h>
-#include <stdint.h>
+#include "chargefile.h"
 
 #ifdef __cplusplus
 extern "C" {
 #endif
 
-uint64_t cpp_check(const uint8_t *job, size_t job_length, uint64_t *places, size_t places_length);
+chargefile_outcome cpp_check(const uint8_t *job, size_t job_length);
+chargefile_outcome cpp_run(const uint8_t *job, size_t job_length, uint8_t *result,
+                           size_t result_length, chargefile_row *rows, size_t rows_length,
+                           uint8_t *memory, size_t memory_length);
 size_t cpp_result_size(const uint8_t *job, size_t job_length);
 size_t cpp_row_size(void);
+size_t cpp_outcome_size(void);
 
 #ifdef __cplusplus
 }

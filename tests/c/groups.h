@@ -6,6 +6,7 @@ void header_tests(void);  /* the numbers of chargefile.h are the document's */
 void limit_tests(void);   /* a count at its limit, and one past it */
 void refusal_tests(void); /* rows 1 to 10 of the refusal table */
 void output_tests(void);  /* row 11, and what is lent */
+void kept_tests(void);    /* a refused job has written nothing, whatever its refusal */
 void result_tests(void);  /* what a run writes */
 
 #endif

@@ -1,4 +1,5 @@
-/* The numbers of chargefile.h are the document's, and a row is laid out as the library has it. */
+/* The numbers of chargefile.h are the document's; a row and an outcome are laid out as the library
+ * has them. */
 #include <stdalign.h>
 #include <stddef.h>
 
@@ -21,6 +22,22 @@ static void row_layout(void)
     EXPECT_EQUAL(offsetof(chargefile_row, used), 14);
     EXPECT_EQUAL(offsetof(chargefile_row, code), 16);
     EXPECT_EQUAL(offsetof(chargefile_row, moment), 18);
+}
+
+static void outcome_layout(void)
+{
+    EXPECT_EQUAL(sizeof(chargefile_outcome), 24);
+    EXPECT_EQUAL(alignof(chargefile_outcome), 8);
+    EXPECT_EQUAL(offsetof(chargefile_outcome, refusal), 0);
+    EXPECT_EQUAL(offsetof(chargefile_outcome, place), 8);
+    EXPECT_EQUAL(offsetof(chargefile_outcome, length), 16);
+}
+
+/* "version (2 bytes, 1)" of a job, "version 1" of a result */
+static void versions(void)
+{
+    EXPECT_EQUAL(CHARGEFILE_JOB_VERSION, 1);
+    EXPECT_EQUAL(CHARGEFILE_RESULT_VERSION, 1);
 }
 
 /* "depth 0 to 8, capacity 1 to 8, pages 1 to 256, operations 0 to 256, turns 0 to 16,384" */
@@ -118,16 +135,22 @@ static void called_from_cpp(void)
     static job j;
     make_job_e(&j, 20);
     lend(&j);
-    EXPECT_EQUAL(cpp_check(j.bytes, j.length, set.places, 1), CHARGEFILE_ACCEPTED);
-    EXPECT_EQUAL(cpp_check(j.bytes, 31, set.places, 1), CHARGEFILE_REFUSED_SHORT);
-    EXPECT_EQUAL(set.places[0], 31);
+    expect_done(cpp_check(j.bytes, j.length), 0);
+    expect_refusal(cpp_check(j.bytes, 31), CHARGEFILE_REFUSED_SHORT, 31);
+    expect_done(cpp_run(j.bytes, j.length, set.result, set.result_length, set.rows, set.rows_length,
+                        set.memory, set.memory_length),
+                148);
+    EXPECT(left_as_after_a_run(148));
     EXPECT_EQUAL(cpp_row_size(), 20);
+    EXPECT_EQUAL(cpp_outcome_size(), 24);
     EXPECT_EQUAL(cpp_result_size(j.bytes, j.length), result_room(counts_of(&j)));
 }
 
 void header_tests(void)
 {
     test("header: a row has 20 bytes, its fields as the library has them", row_layout);
+    test("header: an outcome has 24 bytes, its fields as the library has them", outcome_layout);
+    test("header: the versions", versions);
     test("header: the limits", limits);
     test("header: the largest job, result and table", largest_sizes);
     test("header: sizes of files, jobs and results", sizes);

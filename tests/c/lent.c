@@ -13,13 +13,9 @@ void lend(const job *j)
     memset(set.result, RESULT_BYTE, sizeof set.result);
     memset(set.rows, ROWS_BYTE, sizeof set.rows);
     memset(set.memory, MEMORY_BYTE, sizeof set.memory);
-    for (size_t i = 0; i < PLACES_ROOM; i++) {
-        set.places[i] = UNTOUCHED;
-    }
     set.result_length = result_room(counts_of(j));
     set.rows_length = counts_of(j).operations;
     set.memory_length = 24576;
-    set.places_length = 1;
 }
 
 /* The job as it was handed over: no call may write to it. */
@@ -30,22 +26,35 @@ static void expect_job_kept(const job *j)
     EXPECT(memcmp(given.bytes, j->bytes, sizeof given.bytes) == 0);
 }
 
-uint64_t run(const job *j)
+chargefile_outcome run(const job *j)
 {
     given = *j;
-    uint64_t number = chargefile_run(j->bytes, j->length, set.result, set.result_length, set.rows,
-                                     set.rows_length, set.memory, set.memory_length, set.places,
-                                     set.places_length);
+    chargefile_outcome o = chargefile_run(j->bytes, j->length, set.result, set.result_length,
+                                          set.rows, set.rows_length, set.memory, set.memory_length);
     expect_job_kept(j);
-    return number;
+    return o;
 }
 
-uint64_t check(const job *j)
+chargefile_outcome check(const job *j)
 {
     given = *j;
-    uint64_t number = chargefile_check(j->bytes, j->length, set.places, set.places_length);
+    chargefile_outcome o = chargefile_check(j->bytes, j->length);
     expect_job_kept(j);
-    return number;
+    return o;
+}
+
+void expect_done(chargefile_outcome o, uint64_t length)
+{
+    EXPECT_EQUAL(o.refusal, CHARGEFILE_ACCEPTED);
+    EXPECT_EQUAL(o.place, 0);
+    EXPECT_EQUAL(o.length, length);
+}
+
+void expect_refusal(chargefile_outcome o, uint64_t number, uint64_t place)
+{
+    EXPECT_EQUAL(o.refusal, number);
+    EXPECT_EQUAL(o.place, place);
+    EXPECT_EQUAL(o.length, 0);
 }
 
 /* 1 where the bytes from `first` up to `end` all have one value. */
@@ -67,16 +76,6 @@ int nothing_written(void)
            all(set.memory, 0, sizeof set.memory, MEMORY_BYTE);
 }
 
-int later_places_kept(void)
-{
-    for (size_t i = 1; i < PLACES_ROOM; i++) {
-        if (set.places[i] != UNTOUCHED) {
-            return 0;
-        }
-    }
-    return 1;
-}
-
 int left_as_after_a_run(size_t total)
 {
     size_t rows = set.rows_length * sizeof set.rows[0];
@@ -89,34 +88,25 @@ int left_as_after_a_run(size_t total)
 void expect_refused(const job *j, uint64_t number, uint64_t place)
 {
     lend(j);
-    EXPECT_EQUAL(check(j), number);
-    EXPECT_EQUAL(set.places[0], place);
-    EXPECT(later_places_kept());
-    lend(j);
-    EXPECT_EQUAL(run(j), number);
-    EXPECT_EQUAL(set.places[0], place);
-    EXPECT(later_places_kept());
+    expect_refusal(check(j), number, place);
+    expect_refusal(run(j), number, place);
     EXPECT(nothing_written());
 }
 
 void expect_run(const job *j, size_t total)
 {
     lend(j);
-    EXPECT_EQUAL(check(j), CHARGEFILE_ACCEPTED);
-    EXPECT_EQUAL(set.places[0], UNTOUCHED);
-    EXPECT_EQUAL(run(j), CHARGEFILE_ACCEPTED);
-    if (total > 0) {
-        EXPECT_EQUAL(set.places[0], total);
-    }
-    EXPECT(set.places[0] <= set.result_length);
-    EXPECT_EQUAL(chargefile_four(set.result + CHARGEFILE_RESULT_AT_TOTAL), set.places[0]);
-    EXPECT(left_as_after_a_run(set.places[0]));
-    EXPECT(later_places_kept());
+    expect_done(check(j), 0);
+    EXPECT(nothing_written());
+    chargefile_outcome o = run(j);
+    expect_done(o, total > 0 ? total : o.length);
+    EXPECT(o.length <= set.result_length);
+    EXPECT_EQUAL(chargefile_four(set.result + CHARGEFILE_RESULT_AT_TOTAL), o.length);
+    EXPECT(left_as_after_a_run(o.length));
 }
 
 void expect_too_small(const job *j, uint64_t place)
 {
-    EXPECT_EQUAL(run(j), CHARGEFILE_REFUSED_OUTPUT);
-    EXPECT_EQUAL(set.places[0], place);
+    expect_refusal(run(j), CHARGEFILE_REFUSED_OUTPUT, place);
     EXPECT(nothing_written());
 }

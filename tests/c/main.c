@@ -8,6 +8,7 @@ int main(void)
     limit_tests();
     refusal_tests();
     output_tests();
+    kept_tests();
     result_tests();
     return all_counted();
 }

@@ -70,9 +70,8 @@ static void more_than_enough(void)
     set.result_length += 50;
     set.rows_length += 40;
     set.memory_length += 100;
-    EXPECT_EQUAL(run(&j), 0);
-    EXPECT_EQUAL(set.places[0], result_room(counts_of(&j)));
-    EXPECT(left_as_after_a_run(set.places[0]));
+    expect_done(run(&j), result_room(counts_of(&j)));
+    EXPECT(left_as_after_a_run(result_room(counts_of(&j))));
 }
 
 /* "except that 11 comes last" */
@@ -81,58 +80,23 @@ static void job_before_output(void)
     lend_job_e();
     put_turn(&j, 19, 4);
     set.result_length = set.rows_length = set.memory_length = 0;
-    EXPECT_EQUAL(run(&j), CHARGEFILE_REFUSED_TURN);
-    EXPECT_EQUAL(set.places[0], j.length - 2);
+    expect_refusal(run(&j), CHARGEFILE_REFUSED_TURN, j.length - 2);
     EXPECT(nothing_written());
-}
-
-static void no_place_lent(void)
-{
-    lend_job_e();
-    set.places_length = 0;
-    EXPECT_EQUAL(check(&j), 0);
-    EXPECT_EQUAL(run(&j), 0);
-    EXPECT(left_as_after_a_run(result_room(counts_of(&j))));
-    lend_job_e();
-    set.places_length = 0;
-    j.bytes[0] = 2;
-    EXPECT_EQUAL(check(&j), CHARGEFILE_REFUSED_VERSION);
-    EXPECT_EQUAL(run(&j), CHARGEFILE_REFUSED_VERSION);
-    EXPECT(nothing_written());
-    EXPECT_EQUAL(set.places[0], UNTOUCHED);
-}
-
-static void only_the_first_place(void)
-{
-    lend_job_e();
-    set.places_length = PLACES_ROOM;
-    EXPECT_EQUAL(check(&j), 0);
-    EXPECT_EQUAL(set.places[0], UNTOUCHED);
-    EXPECT_EQUAL(run(&j), 0);
-    EXPECT_EQUAL(set.places[0], result_room(counts_of(&j)));
-    EXPECT(later_places_kept());
-    j.bytes[0] = 2;
-    EXPECT_EQUAL(run(&j), CHARGEFILE_REFUSED_VERSION);
-    EXPECT_EQUAL(set.places[0], 0);
-    EXPECT(later_places_kept());
 }
 
 /* "Where a length is 0 the pointer is not followed and may be NULL." A charge file needs no row. */
 static void null_where_nothing_is_lent(void)
 {
     counts c = {1, 2, 2, 1, 0, 0};
-    EXPECT_EQUAL(chargefile_check(NULL, 0, NULL, 0), CHARGEFILE_REFUSED_SHORT);
-    EXPECT_EQUAL(chargefile_run(NULL, 0, NULL, 0, NULL, 0, NULL, 0, NULL, 0),
-                 CHARGEFILE_REFUSED_SHORT);
+    expect_refusal(chargefile_check(NULL, 0), CHARGEFILE_REFUSED_SHORT, 0);
+    expect_refusal(chargefile_run(NULL, 0, NULL, 0, NULL, 0, NULL, 0), CHARGEFILE_REFUSED_SHORT, 0);
     make_job(&j, c);
     lend(&j);
-    EXPECT_EQUAL(chargefile_run(j.bytes, j.length, NULL, 0, NULL, 0, NULL, 0, set.places, 1),
-                 CHARGEFILE_REFUSED_OUTPUT);
-    EXPECT_EQUAL(set.places[0], CHARGEFILE_SMALL_RESULT);
-    EXPECT_EQUAL(chargefile_run(j.bytes, j.length, set.result, set.result_length, NULL, 0,
-                                set.memory, set.memory_length, NULL, 0),
-                 0);
-    EXPECT_EQUAL(chargefile_four(set.result + CHARGEFILE_RESULT_AT_TOTAL), 24 + j.length);
+    expect_refusal(chargefile_run(j.bytes, j.length, NULL, 0, NULL, 0, NULL, 0),
+                   CHARGEFILE_REFUSED_OUTPUT, CHARGEFILE_SMALL_RESULT);
+    expect_done(chargefile_run(j.bytes, j.length, set.result, set.result_length, NULL, 0,
+                               set.memory, set.memory_length),
+                24 + j.length);
 }
 
 /* "Job, result and working memory are bytes and need no alignment." */
@@ -141,13 +105,12 @@ static void odd_addresses(void)
     static uint8_t shifted[1 + 156];
     static uint8_t wanted[148];
     lend_job_e();
-    EXPECT_EQUAL(run(&j), 0);
-    EXPECT_EQUAL(set.places[0], sizeof wanted);
+    expect_done(run(&j), sizeof wanted);
     memcpy(wanted, set.result, sizeof wanted);
     memcpy(shifted + 1, j.bytes, j.length);
-    EXPECT_EQUAL(chargefile_run(shifted + 1, j.length, set.result + 1, 148, set.rows, 4,
-                                set.memory + 1, 24576, set.places, 1),
-                 0);
+    expect_done(chargefile_run(shifted + 1, j.length, set.result + 1, 148, set.rows, 4,
+                               set.memory + 1, 24576),
+                sizeof wanted);
     EXPECT(memcmp(set.result + 1, wanted, sizeof wanted) == 0);
 }
 
@@ -161,8 +124,6 @@ void output_tests(void)
     test("lent: just enough for the largest job", largest_just_enough);
     test("lent: more than enough", more_than_enough);
     test("lent: a fault of the job comes first", job_before_output);
-    test("lent: no number for the place", no_place_lent);
-    test("lent: three numbers, the first is written", only_the_first_place);
     test("lent: NULL where the length is 0", null_where_nothing_is_lent);
     test("lent: odd addresses", odd_addresses);
 }

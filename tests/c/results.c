@@ -47,7 +47,7 @@ static void expect_header(unsigned operations, unsigned lines, unsigned under_wa
 {
     unsigned log = 24 + 8 * operations;
     unsigned end = log + 4 * lines;
-    EXPECT_EQUAL(two_at(CHARGEFILE_RESULT_AT_VERSION), CHARGEFILE_VERSION);
+    EXPECT_EQUAL(two_at(CHARGEFILE_RESULT_AT_VERSION), CHARGEFILE_RESULT_VERSION);
     EXPECT_EQUAL(two_at(CHARGEFILE_RESULT_AT_OPERATIONS), operations);
     EXPECT_EQUAL(two_at(CHARGEFILE_RESULT_AT_LINES), lines);
     EXPECT_EQUAL(two_at(CHARGEFILE_RESULT_AT_UNDER_WAY), under_way);
@@ -64,7 +64,7 @@ static void expect_file(const job *wanted)
     EXPECT_EQUAL(four_at(CHARGEFILE_RESULT_AT_TOTAL) - four_at(CHARGEFILE_RESULT_AT_FILE_OFFSET),
                  wanted->length);
     EXPECT(memcmp(file, wanted->bytes, wanted->length) == 0);
-    EXPECT_EQUAL(chargefile_check(file, wanted->length, NULL, 0), CHARGEFILE_ACCEPTED);
+    expect_done(chargefile_check(file, wanted->length), 0);
 }
 
 static void run_job_e(unsigned turns, size_t total)

@@ -10,24 +10,22 @@ use chargefile_tests::damage::{fault, scribble};
 use chargefile_tests::make;
 use chargefile_tests::random::Random;
 use chargefile_tests::seeds::each_seed;
+use linked::CallOutcome;
 
 const JOBS: u64 = 8_000;
-const UNTOUCHED: u64 = 0x5555_5555_5555_5555;
 
-/// Both say the same of a job; an accepted job writes no place, a refused one writes the first place that is lent and no other.
+/// Both say the same of a job; an accepted one has place 0, and a check has no output.
 fn agree(job: &[u8]) -> Option<(u32, u32)> {
     let wanted = check(job);
-    let mut places = [UNTOUCHED; 3];
-    let number = linked::check_into(job, &mut places);
-    let left = match wanted {
-        Some((_, place)) => [u64::from(place), UNTOUCHED, UNTOUCHED],
-        None => [UNTOUCHED; 3],
-    };
+    let (refusal, place) = wanted.unwrap_or((0, 0));
     assert_eq!(
-        (number, places),
-        (wanted.map_or(0, |(n, _)| u64::from(n)), left)
+        linked::check_only(job),
+        CallOutcome {
+            refusal: u64::from(refusal),
+            place: u64::from(place),
+            length: 0
+        }
     );
-    assert_eq!(linked::check_into(job, &mut []), number, "no place lent");
     wanted
 }
 

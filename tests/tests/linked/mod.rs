@@ -36,10 +36,18 @@ const fn row_of(number: u16) -> Row {
 
 pub const NO_ROW: Row = row_of(0);
 
+/// What a call comes to, as include/chargefile.h declares it. Refusal 0: done, and length is the output's; else its number, with place, and length 0.
+#[repr(C)]
+#[derive(Clone, Copy, PartialEq, Eq, Debug)]
+pub struct CallOutcome {
+    pub refusal: u64,
+    pub place: u64,
+    pub length: u64,
+}
+
 #[link(name = "chargefile", kind = "static")]
 extern "C" {
-    fn chargefile_check(job: *const u8, job_len: usize, places: *mut u64, places_len: usize)
-        -> u64;
+    fn chargefile_check(job: *const u8, job_len: usize) -> CallOutcome;
     fn chargefile_run(
         job: *const u8,
         job_len: usize,
@@ -49,9 +57,7 @@ extern "C" {
         rows_len: usize,
         memory: *mut u8,
         memory_len: usize,
-        places: *mut u64,
-        places_len: usize,
-    ) -> u64;
+    ) -> CallOutcome;
 }
 
 /// What a run is lent, filled with a pattern beforehand.
@@ -72,24 +78,22 @@ impl Lent {
     }
 }
 
-/// The check of a job: number of the refusal, or 0; its place goes into `places`.
-pub fn check_into(job: &[u8], places: &mut [u64]) -> u64 {
-    // SAFETY: the contract of `chargefile_check` asks nothing of the two slices
-    unsafe { chargefile_check(job.as_ptr(), job.len(), places.as_mut_ptr(), places.len()) }
+/// The check of a job.
+pub fn check_only(job: &[u8]) -> CallOutcome {
+    // SAFETY: the contract of `chargefile_check` asks nothing of the slice
+    unsafe { chargefile_check(job.as_ptr(), job.len()) }
 }
 
 /// The refusal of a job, as the tests' own implementation gives it.
 pub fn check(job: &[u8]) -> Option<(u32, u32)> {
-    let mut places = [u64::MAX];
-    let number = check_into(job, &mut places);
-    (number != 0).then(|| (number as u32, places[0] as u32))
+    let told = check_only(job);
+    (told.refusal != 0).then_some((told.refusal as u32, told.place as u32))
 }
 
-/// Runs a job: the number of the refusal, or 0, and the place, or the result's length.
-pub fn run_only(job: &[u8], lent: &mut Lent) -> (u64, u64) {
-    let mut places = [u64::MAX];
-    // SAFETY: the contract of `chargefile_run` asks nothing of the five slices
-    let number = unsafe {
+/// The run of a job.
+pub fn run_only(job: &[u8], lent: &mut Lent) -> CallOutcome {
+    // SAFETY: the contract of `chargefile_run` asks nothing of the four slices
+    unsafe {
         chargefile_run(
             job.as_ptr(),
             job.len(),
@@ -99,22 +103,22 @@ pub fn run_only(job: &[u8], lent: &mut Lent) -> (u64, u64) {
             lent.rows.len(),
             lent.memory.as_mut_ptr(),
             lent.memory.len(),
-            places.as_mut_ptr(),
-            places.len(),
         )
-    };
-    (number, places[0])
+    }
 }
 
 /// Runs a job, as the tests' own implementation answers it.
 pub fn run(job: &[u8], lent: &mut Lent) -> Outcome {
-    match run_only(job, lent) {
-        (0, length) => Outcome::Done {
-            result: lent.result[..length as usize].to_vec(),
-        },
-        (number, place) => Outcome::Refused {
-            number: number as u32,
-            place: place as u32,
-        },
+    let told = run_only(job, lent);
+    if told.refusal == 0 {
+        assert_eq!(told.place, 0, "the place of a job that was run");
+        return Outcome::Done {
+            result: lent.result[..told.length as usize].to_vec(),
+        };
+    }
+    assert_eq!(told.length, 0, "the length of a job that was refused");
+    Outcome::Refused {
+        number: told.refusal as u32,
+        place: told.place as u32,
     }
 }
