@@ -1,6 +1,6 @@
 -- "The job, byte by byte": limits, header, where each section stands, and what a job is.
 use Prim.Native.Nat.{ℕ, _+_, _-_, _*_, _^_}
-use mathlib.Core.List.{List}
+use mathlib.Core.List.{List, []}
 use lib.Dec.{eqb}
 use Rattle.spec.specs.declared.Kind.{Kind}
 use Rattle.spec.specs.declared.Kind.the-variants.{Search, Insert, Delete}
@@ -29,6 +29,10 @@ pub record Job : Type 0 where
   pub file : File
   pub ops : List Op
   pub turns : List ℕ
+
+-- "A charge file is a job with no operations and no turns"
+abbrev pub fileJob : File → Job
+fileJob f = record { file = f; ops = []; turns = [] }
 
 -- what stands where there is no operation
 abbrev pub noOp : Op
