@@ -51,7 +51,7 @@ pub called
     → Called b s t x y w u p q r
 called {p = p} o h z =
     record {
-      run = record { answer = refl; result = h .result; rows = h .rows; work = h .work; fixed = h .fixed; explained = h .explained };
+      run = record { answer = refl; result = h .result; rows = h .rows; work = h .work; fixed = h .fixed; written = h .written };
       number = z .0 ∙ ap numberOf (h .answer);
       places = z .1 ∙ ap (λ (v : Outcome). placeIn p (placeOf v)) (h .answer);
     }

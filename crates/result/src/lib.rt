@@ -145,7 +145,7 @@ fn put_offsets(result: &mut [u8], at: usize, a: usize, b: usize, c: usize, d: us
 // .., and the total (4 each)"
 fn write_header(result: &mut [u8], m: usize, lines: usize, under: usize, file: usize, total: usize)
     requires { ⌜ (24 ≤ length (now result)) × (m ≤ 256) × (file < 2 ^ 32) × (total < 2 ^ 32) ⌝ }
-    ensures { λ _. ⌜ ((r : Result) (n : ℕ) → Heads r n m lines under file total → now (result .exit) ≡ over (now (result .entry)) 0 (resultHeader r n)) ⌝ }
+    ensures { λ _. ⌜ ((r : Result) → Heads r m lines under file total → now (result .exit) ≡ over (now (result .entry)) 0 (resultHeader r)) ⌝ }
 {
     put_counts(result, 0, VERSION, m, lines, under);
     put_offsets(result, 8, ANSWERS, ANSWERS + 8 * m, file, total);

@@ -182,9 +182,12 @@ answersIn b = map answerOf (parts (word b answerCountAt) answerSize (drop (long 
 unfoldable pub logIn : List ℕ → List Line
 logIn b = map lineOf (parts (word b lineCountAt) lineSize (drop (long b logAt) b))
 
--- the charge file ends at the total; "there is no charge file and its offset is 0"
+-- the charge file stands from its offset to the total; "there is no charge file and its offset is 0"
+unfoldable pub filePart : List ℕ → List ℕ
+filePart b = take (long b resultTotalAt - long b fileAt) (drop (long b fileAt) b)
+
 unfoldable pub fileIn : List ℕ → Option (List ℕ)
-fileIn b = if (eqb (long b fileAt) 0) none (some (take (long b resultTotalAt - long b fileAt) (drop (long b fileAt) b)))
+fileIn b = if (eqb (long b fileAt) 0) none (some (filePart b))
 
 -- What any bytes say, read as a result. Total, as the reading of a job is; what stands behind the total is not read.
 unfoldable pub readResult : List ℕ → Result

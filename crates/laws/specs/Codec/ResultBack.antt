@@ -11,7 +11,7 @@ use Rattle.spec.specs.Basics.{if, each, Each}
 use Rattle.spec.specs.Bytes.{byte, word, long, two, four, parts}
 use Rattle.spec.specs.Job.{maxOps}
 use Rattle.spec.specs.Decode.{headerOf}
-use Rattle.spec.specs.Result.{Told, Line, Result, answerBytes, lineBytes, logOffset, fileOffset, offsetField, fileBytes, resultHeader, encodeResult, answerOf, lineOf, answersIn, logIn, fileIn, readResult}
+use Rattle.spec.specs.Result.{Told, Line, Result, answerBytes, lineBytes, logOffset, fileOffset, offsetField, fileBytes, resultHeader, encodeResult, answerOf, lineOf, answersIn, logIn, filePart, fileIn, readResult}
 use Rattle.spec.specs.Check.{jobFault}
 use Rattle.laws.specs.Tools.{each-imp}
 use Rattle.laws.specs.Codec.Tools.{every}
@@ -85,7 +85,7 @@ pub record Filed (b f : List ℕ) : Type 0 where
   pub there : long b 16 ≡ 0 → ⊥
   pub ordered : long b 16 ≤ long b 20
   pub within : long b 20 ≤ length b
-  pub part : take (long b 20 - long b 16) (drop (long b 16) b) ≡ f
+  pub part : filePart b ≡ f
 
 module _ (m : ℕ) (r : Result) (most : m ≤ maxOps) (fits : ResultFits m r) (post : List ℕ) where
   -- the bytes, and what stands behind the header
@@ -182,7 +182,7 @@ module _ (m : ℕ) (r : Result) (most : m ≤ maxOps) (fits : ResultFits m r) (p
   to-end = ap length file-behind ∙ rw (length-append, to-file, length-append) (omega arith)
 
   pub filed : (f : List ℕ) → r .file ≡ some f → Filed bytes f
-  unfolding offsetField fileBytes fileOffset logOffset
+  unfolding filePart offsetField fileBytes fileOffset logOffset
   filed f e =
       let at : long bytes 16 ≡ fileStart = header-back .file ∙ ap (λ o. offsetField o fileStart) e in
       let n : length F ≡ length f = ap (λ o. length (fileBytes o)) e in
