@@ -19,12 +19,13 @@ pub struct Header {
     pub turns: usize,
 }
 
-// "The limits belong to the job kind itself"
 impl Header {
+    // "Header, 32 bytes: version (2 bytes, 1)": the version of jobs and of charge files. A result has a version of its own.
     pub const SIZE: usize = 32;
 
     pub const VERSION: usize = 1;
 
+    // "The limits belong to the job kind itself"
     pub const MAX_DEPTH: usize = 8;
 
     pub const MAX_CAPACITY: usize = 8;

@@ -10,7 +10,7 @@ use Rattle.spec.specs.Basics.{when, orElse, isSome, among, firstOf, anyO
 use Rattle.spec.specs.Bytes.{byte, word, long, zeros}
 use Rattle.spec.specs.Key.{index, begins}
 use Rattle.spec.specs.File.{Page, File, pageAt, pagesInUse, findIn}
-use Rattle.spec.specs.Job.{maxDepth, maxCapacity, maxPages, maxOps, maxTurns, Header, headerSize, version, versionAt, gAt, cAt, limitAt, usedAt, opCountAt, turnCountAt, directoryOffsetAt, tableOffsetAt, opsOffsetAt, turnsOffsetAt, totalAt, recordSize, directoryOffset, tableOffset, opsOffset, turnsOffset, total, entryPlace, pagePlace, recordPlace, opPlace, turnPlace, fileLength}
+use Rattle.spec.specs.Job.{maxDepth, maxCapacity, maxPages, maxOps, maxTurns, Header, headerSize, jobVersion, versionAt, gAt, cAt, limitAt, usedAt, opCountAt, turnCountAt, directoryOffsetAt, tableOffsetAt, opsOffsetAt, turnsOffsetAt, totalAt, recordSize, directoryOffset, tableOffset, opsOffset, turnsOffset, total, entryPlace, pagePlace, recordPlace, opPlace, turnPlace, fileLength}
 use Rattle.spec.specs.Decode.{headerOf, fileOf, pageParts, opParts, turnParts, numberOf}
 
 unfoldable pub outside : ℕ → ℕ → ℕ → Bool
@@ -22,7 +22,7 @@ short b = when (ltb (length b) headerSize) (length b)
 
 -- 2 version: "not 1". "and 0 for 2"
 unfoldable pub wrongVersion : List ℕ → Option ℕ
-wrongVersion b = when (not (eqb (word b versionAt) version)) versionAt
+wrongVersion b = when (not (eqb (word b versionAt) jobVersion)) versionAt
 
 -- 3 limit: "a count outside its limits, or U is 0 or above P"; "the first byte of the field"
 unfoldable pub overLimit : List ℕ → Option ℕ

@@ -56,8 +56,9 @@ pub record Header : Type 0 where
 abbrev pub headerSize : ℕ
 headerSize = 32
 
-abbrev pub version : ℕ
-version = 1
+-- of jobs and of charge files; a result has a version of its own (Result.antt)
+abbrev pub jobVersion : ℕ
+jobVersion = 1
 
 abbrev pub versionAt : ℕ
 versionAt = 0

@@ -11,7 +11,7 @@ use Rattle.spec.specs.Basics.{if, each}
 use Rattle.spec.specs.Bytes.{two, four}
 use Rattle.spec.specs.Code.{notYet}
 use Rattle.spec.specs.File.{File}
-use Rattle.spec.specs.Job.{Job, version}
+use Rattle.spec.specs.Job.{Job}
 use Rattle.spec.specs.Encode.{encodeFile}
 use Rattle.spec.specs.State.{Row, State}
 use Rattle.spec.specs.Run.{run}
@@ -115,10 +115,14 @@ unfoldable pub fileBytes : Option File → List ℕ
 fileBytes none = []
 fileBytes (some f) = encodeFile f
 
+-- "version 1": the result's own, whatever the job's is
+abbrev pub resultVersion : ℕ
+resultVersion = 1
+
 -- "Header, 24 bytes: version 1, m, log length L, operations begun but unfinished (2 bytes each); offsets .., and the total (4 each)"
 unfoldable pub resultHeader : Result → ℕ → List ℕ
 resultHeader r fileLength =
-    two version
+    two resultVersion
     ++ two (length (r .answers))
     ++ two (length (r .log))
     ++ two (r .unended)

@@ -7,7 +7,7 @@ use mathlib.Core.Option.{none}
 use native.Mathlib.Omega.{arith}
 use lib.ListN.{length, length-map}
 use Rattle.spec.specs.Bytes.{word, long}
-use Rattle.spec.specs.Job.{Header, maxDepth, maxCapacity, maxPages, maxOps, maxTurns, headerSize, version, versionAt, directoryOffsetAt, tableOffsetAt, opsOffsetAt, turnsOffsetAt, totalAt, directoryOffset, tableOffset, opsOffset, turnsOffset, total}
+use Rattle.spec.specs.Job.{Header, maxDepth, maxCapacity, maxPages, maxOps, maxTurns, headerSize, jobVersion, versionAt, directoryOffsetAt, tableOffsetAt, opsOffsetAt, turnsOffsetAt, totalAt, directoryOffset, tableOffset, opsOffset, turnsOffset, total}
 use Rattle.spec.specs.Decode.{headerOf, fileOf, entryParts, pageParts, opParts, turnParts, jobOf}
 use Rattle.spec.specs.Check.{short, wrongVersion, overLimit, wrongOffset, wrongEntry, wrongPage, wrongOwner, wrongRecord, wrongOp, wrongTurn, jobFault}
 use Rattle.laws.specs.Codec.Tools.{failed, among-none, among-end, row-none, row-end}
@@ -46,7 +46,7 @@ limits-said b = simp (failed, among-none, among-end) (omega arith)
 -- rows 1, 2 and 4: the header's other fields, and the length
 pub record Laid (b : List ℕ) : Type 0 where
   pub header : headerSize ≤ length b
-  pub first : word b versionAt ≡ version
+  pub first : word b versionAt ≡ jobVersion
   pub directory : long b directoryOffsetAt ≡ directoryOffset
   pub table : long b tableOffsetAt ≡ tableOffset (headerOf b)
   pub ops : long b opsOffsetAt ≡ opsOffset (headerOf b)
