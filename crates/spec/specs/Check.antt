@@ -10,7 +10,7 @@ use Rattle.spec.specs.Basics.{when, orElse, isSome, among, firstOf, anyO
 use Rattle.spec.specs.Bytes.{byte, word, long, zeros}
 use Rattle.spec.specs.Key.{index, begins}
 use Rattle.spec.specs.File.{Page, File, pageAt, pagesInUse, findIn}
-use Rattle.spec.specs.Job.{maxDepth, maxCapacity, maxPages, maxOps, maxTurns, Header, headerSize, jobVersion, versionAt, gAt, cAt, limitAt, usedAt, opCountAt, turnCountAt, directoryOffsetAt, tableOffsetAt, opsOffsetAt, turnsOffsetAt, totalAt, recordSize, directoryOffset, tableOffset, opsOffset, turnsOffset, total, entryPlace, pagePlace, recordPlace, opPlace, turnPlace, fileLength}
+use Rattle.spec.specs.Job.{minDepth, maxDepth, minCapacity, maxCapacity, minPages, maxPages, minOps, maxOps, minTurns, maxTurns, Header, headerSize, jobVersion, versionAt, gAt, cAt, limitAt, usedAt, opCountAt, turnCountAt, directoryOffsetAt, tableOffsetAt, opsOffsetAt, turnsOffsetAt, totalAt, recordSize, directoryOffset, tableOffset, opsOffset, turnsOffset, total, entryPlace, pagePlace, recordPlace, opPlace, turnPlace, fileLength}
 use Rattle.spec.specs.Decode.{headerOf, fileOf, pageParts, opParts, turnParts, numberOf}
 
 unfoldable pub outside : ℕ → ℕ → ℕ → Bool
@@ -29,12 +29,12 @@ unfoldable pub overLimit : List ℕ → Option ℕ
 overLimit b =
     let h = headerOf b in
     among
-    (when (ltb maxDepth (h .g)) gAt
-    ∷ when (outside 1 maxCapacity (h .c)) cAt
-    ∷ when (outside 1 maxPages (h .limit)) limitAt
+    (when (outside minDepth maxDepth (h .g)) gAt
+    ∷ when (outside minCapacity maxCapacity (h .c)) cAt
+    ∷ when (outside minPages maxPages (h .limit)) limitAt
     ∷ when (outside 1 (h .limit) (h .used)) usedAt
-    ∷ when (ltb maxOps (h .ops)) opCountAt
-    ∷ when (ltb maxTurns (h .turns)) turnCountAt
+    ∷ when (outside minOps maxOps (h .ops)) opCountAt
+    ∷ when (outside minTurns maxTurns (h .turns)) turnCountAt
     ∷ [])
 
 -- 4 offset: "an offset or total not as computed; length not the total (place 28)"
