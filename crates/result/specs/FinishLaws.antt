@@ -9,7 +9,7 @@ use Rattle.spec.specs.Basics.{each}
 use Rattle.spec.specs.Bytes.{two, four}
 use Rattle.spec.specs.Encode.{encodeFile}
 use Rattle.spec.specs.State.{State}
-use Rattle.spec.specs.Result.{toldOf, linesFrom, logOf, Result, logOffset, fileOffset, offsetField, fileBytes, fileLeft, resultOf, answerBytes, lineBytes, resultHeader, encodeResult}
+use Rattle.spec.specs.Result.{resultVersion, toldOf, linesFrom, logOf, Result, logOffset, fileOffset, offsetField, fileBytes, fileLeft, resultOf, answerBytes, lineBytes, resultHeader, encodeResult}
 use borrow.Author.Tests.{eq-eqb, ne-eqb}
 use Rattle.laws.specs.Tools.{if-true, if-false}
 use Rattle.laws.specs.Codec.Sizes.{length-result-header, length-answers, length-lines, length-result}
@@ -23,13 +23,13 @@ use Rattle.result.specs.Lines.{LogWritten}
 -- the header, in two pieces
 pub result-header
     : {s₁ s₂ : List ℕ} (s : List ℕ) (r : Result) (m lines under file total : ℕ)
-    → s₁ ≡ over s 0 (two 1 ++ two m ++ two lines ++ two under)
+    → s₁ ≡ over s 0 (two resultVersion ++ two m ++ two lines ++ two under)
     → s₂ ≡ over s₁ 8 (four 24 ++ four (24 + 8 * m) ++ four file ++ four total)
     → Heads r m lines under file total
     → s₂ ≡ over s 0 (resultHeader r)
 unfolding resultHeader logOffset two four
 result-header s r m lines under file total p q h =
-    let counts : List ℕ = two 1 ++ two m ++ two lines ++ two under in
+    let counts : List ℕ = two resultVersion ++ two m ++ two lines ++ two under in
     let offsets : List ℕ = four 24 ++ four (24 + 8 * m) ++ four file ++ four total in
     q ∙ rw (p, over-over counts offsets s 0 8 refl, h .version, ← h .answers, ← h .log, ← h .unended, ← h .offset, ← h .end)
 

@@ -9,17 +9,32 @@ use Rattle.spec.specs.Basics.{if}
 use Rattle.spec.specs.File.{File}
 
 -- "The limits belong to the job kind itself: depth 0 to 8, capacity 1 to 8, pages 1 to 256, operations 0 to 256, turns 0 to 16,384"
+abbrev pub minDepth : ℕ
+minDepth = 0
+
 abbrev pub maxDepth : ℕ
 maxDepth = 8
+
+abbrev pub minCapacity : ℕ
+minCapacity = 1
 
 abbrev pub maxCapacity : ℕ
 maxCapacity = 8
 
+abbrev pub minPages : ℕ
+minPages = 1
+
 abbrev pub maxPages : ℕ
 maxPages = 256
 
+abbrev pub minOps : ℕ
+minOps = 0
+
 abbrev pub maxOps : ℕ
 maxOps = 256
+
+abbrev pub minTurns : ℕ
+minTurns = 0
 
 abbrev pub maxTurns : ℕ
 maxTurns = 16384
@@ -60,8 +75,9 @@ pub record Header : Type 0 where
 abbrev pub headerSize : ℕ
 headerSize = 32
 
-abbrev pub version : ℕ
-version = 1
+-- of jobs and of charge files; a result has a version of its own (Result.antt)
+abbrev pub jobVersion : ℕ
+jobVersion = 1
 
 abbrev pub versionAt : ℕ
 versionAt = 0

@@ -62,11 +62,12 @@ unfoldable pub countUnder : List Row → ℕ
 countUnder [] = 0
 countUnder (r ∷ rs) = if (underWay (r .stage)) (suc (countUnder rs)) (countUnder rs)
 
--- "Header, 24 bytes: version 1, m, log length L, operations begun but unfinished (2 bytes each); offsets of answers, log and charge file, .., and
--- the total (4 each)": where each field stands
+-- "version 1": the result's own, whatever the job's is
 abbrev pub resultVersion : ℕ
 resultVersion = 1
 
+-- "Header, 24 bytes: version 1, m, log length L, operations begun but unfinished (2 bytes each); offsets of answers, log and charge file, .., and
+-- the total (4 each)": where each field stands
 abbrev pub resultVersionAt : ℕ
 resultVersionAt = 0
 
