@@ -7,8 +7,8 @@
 use std::collections::HashSet;
 
 use crate::job::{
-    Counts, Kind, ENTRY_LENGTH, HEADER_LENGTH, MAX_CAPACITY, MAX_DEPTH, MAX_OPERATIONS, MAX_PAGES,
-    MAX_TURNS, OPERATION_LENGTH, TURN_LENGTH, VERSION,
+    Counts, Kind, ENTRY_LENGTH, HEADER_LENGTH, JOB_VERSION, MAX_CAPACITY, MAX_DEPTH,
+    MAX_OPERATIONS, MAX_PAGES, MAX_TURNS, OPERATION_LENGTH, TURN_LENGTH,
 };
 use crate::key;
 use crate::little_endian::{four_at, two_at};
@@ -65,7 +65,7 @@ fn short(job: &[u8]) -> Option<usize> {
 
 /// Row 2: version "not 1"; the place is "0 for 2".
 fn version(job: &[u8]) -> Option<usize> {
-    (two_at(job, 0) != VERSION).then_some(0)
+    (two_at(job, 0) != JOB_VERSION).then_some(0)
 }
 
 /// Row 3: "a count outside its limits, or U is 0 or above P". The fields are

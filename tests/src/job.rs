@@ -4,8 +4,8 @@ use crate::file::ChargeFile;
 use crate::little_endian::{four_at, push_four, push_offset, push_two, two_at};
 use crate::page::{page_length, Page};
 
-/// The only version.
-pub const VERSION: usize = 1;
+/// "Header, 32 bytes: version (2 bytes, 1)": of jobs and of charge files.
+pub const JOB_VERSION: usize = 1;
 /// "Header, 32 bytes".
 pub const HEADER_LENGTH: usize = 32;
 /// "Directory: 2 bytes an entry."
@@ -170,7 +170,7 @@ impl Job {
 
     fn header_bytes(&self) -> Vec<u8> {
         let (counts, mut bytes) = (self.counts(), Vec::new());
-        push_two(&mut bytes, VERSION);
+        push_two(&mut bytes, JOB_VERSION);
         bytes.extend([counts.depth as u8, counts.capacity as u8]);
         push_two(&mut bytes, counts.pages);
         push_two(&mut bytes, counts.in_use);

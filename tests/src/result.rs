@@ -3,6 +3,8 @@
 use crate::answer::{Answer, Line, CODES};
 use crate::little_endian::{four_at, push_four, push_offset, push_two, two_at};
 
+/// "Header, 24 bytes: version 1": the result's own.
+pub const RESULT_VERSION: usize = 1;
 /// "Header, 24 bytes".
 pub const RESULT_HEADER_LENGTH: usize = 24;
 /// "Answer, 8 bytes".
@@ -28,7 +30,7 @@ pub fn to_bytes(contents: &Contents) -> Vec<u8> {
     let log_end = log_offset + LINE_LENGTH * contents.log.len();
     let charge_file = contents.charge_file.as_deref();
     let mut bytes = Vec::new();
-    push_two(&mut bytes, 1);
+    push_two(&mut bytes, RESULT_VERSION);
     push_two(&mut bytes, contents.answers.len());
     push_two(&mut bytes, contents.log.len());
     push_two(&mut bytes, contents.under_way);
@@ -53,8 +55,8 @@ pub fn to_bytes(contents: &Contents) -> Vec<u8> {
 /// the document has it. `bytes` ends where the result's total says.
 pub fn from_bytes(bytes: &[u8]) -> Result<Contents, String> {
     let wrong = |what: &str| Err(format!("result: {what}"));
-    if bytes.len() < RESULT_HEADER_LENGTH || two_at(bytes, 0) != 1 {
-        return wrong("no header of version 1");
+    if bytes.len() < RESULT_HEADER_LENGTH || two_at(bytes, 0) != RESULT_VERSION {
+        return wrong(&format!("no header of version {RESULT_VERSION}"));
     }
     let (m, lines) = (two_at(bytes, 2), two_at(bytes, 4));
     let log_offset = RESULT_HEADER_LENGTH + ANSWER_LENGTH * m;

@@ -1,6 +1,6 @@
 -- What is handed over, of a check and of a run.
 use Prim.Native.Nat.{ℕ}
-use mathlib.Core.Path.{_≡_, refl, ap, _∙_}
+use mathlib.Core.Path.{_≡_, ap, subst, _∙_}
 use mathlib.Core.List.{List}
 use Rattle.spec.specs.declared.Outcome.{Outcome}
 use Rattle.spec.specs.Check.{jobFault}
@@ -21,8 +21,8 @@ pub called
     → Settled b s t x y w u o
     → r ≡ handed o
     → Called b s t x y w u r
-called o h z =
+called {b} {s} {t} {x} {y} {w} {u} o h z =
     record {
-      run = record { answer = refl; result = h .result; rows = h .rows; work = h .work; fixed = h .fixed; explained = h .explained };
+      run = subst (λ (v : Outcome). Settled b s t x y w u v) (h .answer) h;
       handed = z ∙ ap handed (h .answer);
     }

@@ -19,19 +19,30 @@ pub struct Header {
     pub turns: usize,
 }
 
-// "The limits belong to the job kind itself"
 impl Header {
+    // "Header, 32 bytes: version (2 bytes, 1)": the version of jobs and of charge files. A result has a version of its own.
     pub const SIZE: usize = 32;
 
     pub const VERSION: usize = 1;
 
+    // "The limits belong to the job kind itself: depth 0 to 8, capacity 1 to 8, pages 1 to 256, operations 0 to 256, turns 0 to 16,384"
+    pub const MIN_DEPTH: usize = 0;
+
     pub const MAX_DEPTH: usize = 8;
+
+    pub const MIN_CAPACITY: usize = 1;
 
     pub const MAX_CAPACITY: usize = 8;
 
+    pub const MIN_PAGES: usize = 1;
+
     pub const MAX_PAGES: usize = 256;
 
+    pub const MIN_OPS: usize = 0;
+
     pub const MAX_OPS: usize = 256;
+
+    pub const MIN_TURNS: usize = 0;
 
     pub const MAX_TURNS: usize = 16384;
 

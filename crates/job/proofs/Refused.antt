@@ -1,5 +1,5 @@
 -- What the rows that were passed tell, and what the answer of a row makes the check's answer.
-use Prim.Native.Nat.{ℕ, suc, _≤_}
+use Prim.Native.Nat.{ℕ, _≤_}
 use mathlib.Core.Path.{_≡_, refl, sym, _∙_}
 use mathlib.Core.List.{List, [], _∷_}
 use mathlib.Core.Option.{Option, none}
@@ -11,7 +11,7 @@ use Rattle.spec.specs.declared.Checked.the-variants.{Accepted, Refused}
 use Rattle.spec.specs.Basics.{orElse}
 use Rattle.spec.specs.Job.{headerSize}
 use Rattle.spec.specs.Decode.{headerOf}
-use Rattle.spec.specs.Check.{short, wrongVersion, overLimit, wrongOffset, numbered, firstRow}
+use Rattle.spec.specs.Check.{short, wrongVersion, overLimit, wrongOffset, numbered, Refusal, row, firstRow}
 use Rattle.spec.specs.Cases.{spotOf, checkedOf}
 use Rattle.laws.specs.Codec.Tools.{when-none, ltb-no}
 use Rattle.laws.specs.Codec.Rows.{limits-said, header-said}
@@ -24,18 +24,18 @@ pub passed : (o : Option ℕ) (s : Spot) → s ≡ spotOf o → s ≡ Nowhere �
 passed o s e f = spot-none o (sym f ∙ e)
 
 -- a row of the table, numbered n, and those behind it
-module _ (n : ℕ) (r : List ℕ → Option ℕ) (rs : List (List ℕ → Option ℕ)) (b : List ℕ) where
-  pub row-hit : (s : Spot) (p : ℕ) → s ≡ spotOf (r b) → s ≡ At p → Refused n p ≡ checkedOf (firstRow n (r ∷ rs) b)
+module _ (n : ℕ) (r : List ℕ → Option ℕ) (rs : List Refusal) (b : List ℕ) where
+  pub row-hit : (s : Spot) (p : ℕ) → s ≡ spotOf (r b) → s ≡ At p → Refused n p ≡ checkedOf (firstRow (row n r ∷ rs) b)
   unfolding firstRow numbered orElse checkedOf
   row-hit s p e f = rw (spot-some (r b) p (sym f ∙ e))
 
-  pub row-next : (c : Checked) → r b ≡ none → c ≡ checkedOf (firstRow (suc n) rs b) → c ≡ checkedOf (firstRow n (r ∷ rs) b)
+  pub row-next : (c : Checked) → r b ≡ none → c ≡ checkedOf (firstRow rs b) → c ≡ checkedOf (firstRow (row n r ∷ rs) b)
   unfolding firstRow numbered orElse
   row-next c e f = rw e f
 
-pub rows-end : (n : ℕ) (b : List ℕ) → Accepted ≡ checkedOf (firstRow n [] b)
+pub rows-end : (b : List ℕ) → Accepted ≡ checkedOf (firstRow [] b)
 unfolding firstRow checkedOf
-rows-end n b = refl
+rows-end b = refl
 
 -- what rows 1 to 4 leave
 pub long-enough : (b : List ℕ) → short b ≡ none → headerSize ≤ length b

@@ -48,22 +48,22 @@ pub fn over_limit(job: &[u8], h: Header) -> Spot
     requires { ⌜ countsOf h ≡ headerOf (now job) ⌝ }
     ensures { λ r. ⌜ r ≡ spotOf (overLimit (now (job .entry))) ⌝ }
 {
-    if Header::MAX_DEPTH < h.depth {
+    if is_outside(Header::MIN_DEPTH, Header::MAX_DEPTH, h.depth) {
         return Spot::At(2);
     }
-    if is_outside(1, Header::MAX_CAPACITY, h.capacity) {
+    if is_outside(Header::MIN_CAPACITY, Header::MAX_CAPACITY, h.capacity) {
         return Spot::At(3);
     }
-    if is_outside(1, Header::MAX_PAGES, h.pages) {
+    if is_outside(Header::MIN_PAGES, Header::MAX_PAGES, h.pages) {
         return Spot::At(4);
     }
     if is_outside(1, h.pages, h.used) {
         return Spot::At(6);
     }
-    if Header::MAX_OPS < h.ops {
+    if is_outside(Header::MIN_OPS, Header::MAX_OPS, h.ops) {
         return Spot::At(8);
     }
-    if Header::MAX_TURNS < h.turns {
+    if is_outside(Header::MIN_TURNS, Header::MAX_TURNS, h.turns) {
         return Spot::At(10);
     }
     Spot::Nowhere

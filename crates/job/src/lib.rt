@@ -35,7 +35,7 @@ pub fn check(job: &[u8]) -> Checked
 // Row 3 and those behind it.
 fn from_limit(job: &[u8], h: Header) -> Checked
     requires { ⌜ (short (now job) ≡ none) × (wrongVersion (now job) ≡ none) × (countsOf h ≡ headerOf (now job)) ⌝ }
-    ensures { λ r. ⌜ r ≡ checkedOf (firstRow 3 (drop 2 rows) (now (job .entry))) ⌝ }
+    ensures { λ r. ⌜ r ≡ checkedOf (firstRow (drop 2 rows) (now (job .entry))) ⌝ }
 {
     let s = head::over_limit(job, h);
     if let Spot::At(place) = s {
@@ -51,7 +51,7 @@ fn from_limit(job: &[u8], h: Header) -> Checked
 // Row 5 and those behind it.
 fn from_entry(job: &[u8], h: Header) -> Checked
     requires { ⌜ Heads h (now job) ⌝ }
-    ensures { λ r. ⌜ r ≡ checkedOf (firstRow 5 (drop 4 rows) (now (job .entry))) ⌝ }
+    ensures { λ r. ⌜ r ≡ checkedOf (firstRow (drop 4 rows) (now (job .entry))) ⌝ }
 {
     let s = table::wrong_entry(job, h);
     if let Spot::At(place) = s {
@@ -67,7 +67,7 @@ fn from_entry(job: &[u8], h: Header) -> Checked
 // Row 7 and those behind it.
 fn from_owner(job: &[u8], h: Header) -> Checked
     requires { ⌜ Paged h (now job) ⌝ }
-    ensures { λ r. ⌜ r ≡ checkedOf (firstRow 7 (drop 6 rows) (now (job .entry))) ⌝ }
+    ensures { λ r. ⌜ r ≡ checkedOf (firstRow (drop 6 rows) (now (job .entry))) ⌝ }
 {
     let s = owner::wrong_owner(job, h);
     if let Spot::At(place) = s {
@@ -83,7 +83,7 @@ fn from_owner(job: &[u8], h: Header) -> Checked
 // Rows 9 and 10.
 fn from_op(job: &[u8], h: Header) -> Checked
     requires { ⌜ Heads h (now job) ⌝ }
-    ensures { λ r. ⌜ r ≡ checkedOf (firstRow 9 (drop 8 rows) (now (job .entry))) ⌝ }
+    ensures { λ r. ⌜ r ≡ checkedOf (firstRow (drop 8 rows) (now (job .entry))) ⌝ }
 {
     let s = work::wrong_op(job, h);
     if let Spot::At(place) = s {

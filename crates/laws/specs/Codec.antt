@@ -26,5 +26,7 @@ pub mod Sizes
 pub mod Written
 pub mod AsBytes
 pub mod Exact
+-- a result, written and read
+pub mod ResultBack
 -- a job with no turns
 pub mod Quiet

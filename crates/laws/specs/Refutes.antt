@@ -1,6 +1,6 @@
 -- A test that fails refutes the claim: where a field of `Explained` holds, the test of that name in Weighed is true.
 -- Each is shown from the field's statement alone. No law on turns or bytes is used, and no definition of the machine is opened, so it holds
--- whatever the machine is: a job on which one of the thirteen tests is false is not explained (`passes`).
+-- whatever the machine is, and whatever the result: one on which one of the fourteen tests is false does not explain the job (`passes`).
 use Prim.Native.Nat.{ℕ, zero, suc, _<_, _≤_}
 use mathlib.Core.Path.{_≡_, refl, ap}
 use mathlib.Core.Logic.{_⊎_, inl, inr, _↔_}
@@ -20,16 +20,17 @@ use Rattle.spec.specs.declared.Stage.the-variants.{NotBegun, ReadPage, Reread, 
 use Rattle.spec.specs.Basics.{isSome, allOf, Has, here, there}
 use Rattle.spec.specs.Code.{notYet, noDepth, noPage}
 use Rattle.spec.specs.File.{Page, File, findIn, contents}
-use Rattle.spec.specs.Job.{Job, noOp}
+use Rattle.spec.specs.Job.{Job, fileJob, noOp}
+use Rattle.spec.specs.Decode.{jobOf}
 use Rattle.spec.specs.State.{State}
 use Rattle.spec.specs.Run.{stageOf, run}
-use Rattle.spec.specs.Result.{Line, result}
+use Rattle.spec.specs.Result.{Line, Result}
 use Rattle.spec.specs.PlainList.{Reply, replyOf}
 use Rattle.spec.specs.Proper.{NoneTwice, empty, more}
-use Rattle.spec.specs.Claims.{stateAt, times, log, lineAt, opAt, answerOf, fed, FirstTurn, Ended, Waits, Before, Explained}
+use Rattle.spec.specs.Claims.{stateAt, times, lineAt, answerAt, opAt, fed, FirstTurn, Ended, Waits, Before, Accepted, Explained}
 use Rattle.laws.specs.Tools.{and-left, and-right}
 use Rattle.laws.specs.Weighed.{every, some-of, sameRec, sameReply, same, samePage, sameFile, isFile, member, noneTwice, isDone, isSearch, waits, ended, first, precedes}
-use Rattle.laws.specs.Weighed.{answers, refused, once, noOther, sorted, held, charged, listOnce, fileOnce, order, searches, progressAt, progress, finished}
+use Rattle.laws.specs.Weighed.{count, answers, refused, once, noOther, sorted, held, charged, listOnce, fileOnce, order, searches, progressAt, progress, finished}
 
 -- tests joined: when they come out true
 is-not : {a : Bool} → (a ≡ true → ⊥) → not a ≡ true
@@ -154,6 +155,9 @@ unfolding precedes
 precedes-true a b (inl l) = rw (lt-ltb _ _ l)
 precedes-true a b (inr h) = is-or {a = ltb (a .moment) (b .moment)} (λ e. is-and (eq-eqb _ _ (h .0)) (lt-ltb _ _ (h .1)))
 
+one : (n : ℕ) → eqb n n ≡ true
+one n = eq-eqb n n refl
+
 samePage-true : (p : Page) → samePage p p ≡ true
 unfolding samePage
 samePage-true p =
@@ -164,29 +168,30 @@ unfolding sameFile
 sameFile-true f =
     is-and (is-and (is-and (is-and (is-and (one (f .g)) (one (f .c))) (one (f .limit))) (one (f .used))) (same-true eqb one {xs = f .directory} refl))
     (same-true samePage samePage-true {xs = f .table} refl)
-  where
-    one : (n : ℕ) → eqb n n ≡ true
-    one n = eq-eqb n n refl
 
-isFile-true : (o : Option File) (h : File) → ((f : File) → o ≡ some f → f ≡ h) → isFile o h ≡ true
-unfolding isFile
+isFile-true : (o : Option (List ℕ)) (h : File) → ((f : List ℕ) → o ≡ some f → Accepted f × (jobOf f ≡ fileJob h)) → isFile o h ≡ true
+unfolding isFile isSome
 isFile-true none h e = refl
-isFile-true (some f) h e = rw (e f refl) (sameFile-true h)
+isFile-true (some f) h e = let k = e f refl in rw (k .0, k .1) (is-and (is-and (sameFile-true h) (one 0)) (one 0))
 
 -- The fields, in the claim's order.
-pub answers-true : (j : Job) → fed j (length (log j)) .replies ≡ map (λ h. replyOf (answerOf j (h .op))) (log j) → answers j ≡ true
+pub count-true : (j : Job) (r : Result) → length (r .answers) ≡ length (j .ops) → count j r ≡ true
+unfolding count
+count-true j r h = eq-eqb _ _ h
+
+pub answers-true : (j : Job) (r : Result) → fed j r (length (r .log)) .replies ≡ map (λ h. replyOf (answerAt r (h .op))) (r .log) → answers j r ≡ true
 unfolding answers
-answers-true j h = same-true sameReply sameReply-true h
+answers-true j r h = same-true sameReply sameReply-true h
 
 pub refused-true
-    : (j : Job)
+    : (j : Job) (r : Result)
     → ((p : ℕ)
-    → p < length (log j)
-    → (answerOf j (lineAt j p .op) .code ≡ noDepth) ⊎ (answerOf j (lineAt j p .op) .code ≡ noPage)
-    → (findIn (fed j p .list) (opAt j p .call) ≡ none) × (fed j (suc p) .list ≡ fed j p .list))
-    → refused j ≡ true
+    → p < length (r .log)
+    → (answerAt r (lineAt r p .op) .code ≡ noDepth) ⊎ (answerAt r (lineAt r p .op) .code ≡ noPage)
+    → (findIn (fed j r p .list) (opAt j r p .call) ≡ none) × (fed j r (suc p) .list ≡ fed j r p .list))
+    → refused j r ≡ true
 unfolding refused isSome
-refused-true j h =
+refused-true j r h =
     every-true _ _
     (λ p l.
     is-or
@@ -194,46 +199,46 @@ refused-true j h =
     let (missing, kept) = h p l (says-refused _ (not-false _ e)) in
     is-and (ap (λ x. not (isSome x)) missing) (same-true sameRec sameRec-true kept)))
 
-pub once-true : (j : Job) → ((i : ℕ) → (answerOf j i .code ≡ notYet → ⊥) → times i (log j) ≡ 1) → once j ≡ true
+pub once-true : (j : Job) (r : Result) → ((i : ℕ) → (answerAt r i .code ≡ notYet → ⊥) → times i (r .log) ≡ 1) → once j r ≡ true
 unfolding once
-once-true j h = every-true _ _ (λ i l. is-or (λ e. eq-eqb _ _ (h i (eqb-false _ _ e))))
+once-true j r h = every-true _ _ (λ i l. is-or (λ e. eq-eqb _ _ (h i (eqb-false _ _ e))))
 
-pub noOther-true : (j : Job) → ((i : ℕ) → answerOf j i .code ≡ notYet → times i (log j) ≡ 0) → noOther j ≡ true
+pub noOther-true : (j : Job) (r : Result) → ((i : ℕ) → answerAt r i .code ≡ notYet → times i (r .log) ≡ 0) → noOther j r ≡ true
 unfolding noOther
-noOther-true j h = every-true _ _ (λ i l. is-or (λ e. eq-eqb _ _ (h i (eqb-true _ _ (not-false _ e)))))
+noOther-true j r h = every-true _ _ (λ i l. is-or (λ e. eq-eqb _ _ (h i (eqb-true _ _ (not-false _ e)))))
 
-pub sorted-true : (j : Job) → ((p q : ℕ) → p < q → q < length (log j) → Before (lineAt j p) (lineAt j q)) → sorted j ≡ true
+pub sorted-true : (j : Job) (r : Result) → ((p q : ℕ) → p < q → q < length (r .log) → Before (lineAt r p) (lineAt r q)) → sorted j r ≡ true
 unfolding sorted
-sorted-true j h = every-true _ _ (λ q l. every-true _ _ (λ p k. precedes-true _ _ (h p q k l)))
+sorted-true j r h = every-true _ _ (λ q l. every-true _ _ (λ p k. precedes-true _ _ (h p q k l)))
 
-pub held-true : (j : Job) → ((r : Rec) → Has r (fed j (length (log j)) .list) ↔ Has r (contents (run j .file))) → held j ≡ true
+pub held-true : (j : Job) (r : Result) → ((c : Rec) → Has c (fed j r (length (r .log)) .list) ↔ Has c (contents (run j .file))) → held j r ≡ true
 unfolding held
-held-true j h = is-and (all-true _ _ (λ r k. member-true (h r .0 k))) (all-true _ _ (λ r k. member-true (h r .1 k)))
+held-true j r h = is-and (all-true _ _ (λ c k. member-true (h c .0 k))) (all-true _ _ (λ c k. member-true (h c .1 k)))
 
-pub charged-true : (j : Job) → ((f : File) → result j .file ≡ some f → f ≡ run j .file) → charged j ≡ true
+pub charged-true : (j : Job) (r : Result) → ((f : List ℕ) → r .file ≡ some f → Accepted f × (jobOf f ≡ fileJob (run j .file))) → charged j r ≡ true
 unfolding charged
-charged-true j h = isFile-true (result j .file) (run j .file) h
+charged-true j r h = isFile-true (r .file) (run j .file) h
 
-pub listOnce-true : (j : Job) → ((n : ℕ) → NoneTwice (fed j n .list)) → listOnce j ≡ true
+pub listOnce-true : (j : Job) (r : Result) → ((n : ℕ) → NoneTwice (fed j r n .list)) → listOnce j r ≡ true
 unfolding listOnce
-listOnce-true j h = every-true _ _ (λ n l. noneTwice-true (h n))
+listOnce-true j r h = every-true _ _ (λ n l. noneTwice-true (h n))
 
-pub fileOnce-true : (j : Job) → ((t : ℕ) → t ≤ length (j .turns) → NoneTwice (contents (stateAt j t .file))) → fileOnce j ≡ true
+pub fileOnce-true : (j : Job) (r : Result) → ((t : ℕ) → t ≤ length (j .turns) → NoneTwice (contents (stateAt j t .file))) → fileOnce j r ≡ true
 unfolding fileOnce
-fileOnce-true j h = every-true _ _ (λ t l. noneTwice-true (h t (omega arith)))
+fileOnce-true j r h = every-true _ _ (λ t l. noneTwice-true (h t (omega arith)))
 
 pub order-true
-    : (j : Job)
+    : (j : Job) (r : Result)
     → ((p q t u : ℕ)
-    → p < length (log j)
-    → q < length (log j)
-    → Ended j (lineAt j p .op) t
-    → FirstTurn j (lineAt j q .op) u
+    → p < length (r .log)
+    → q < length (r .log)
+    → Ended j (lineAt r p .op) t
+    → FirstTurn j (lineAt r q .op) u
     → t < u
     → p < q)
-    → order j ≡ true
+    → order j r ≡ true
 unfolding order
-order-true j h =
+order-true j r h =
     every-true _ _
     (λ q l.
     every-true _ _
@@ -250,11 +255,11 @@ order-true j h =
     omega arith))))))
 
 pub searches-true
-    : (j : Job)
+    : (j : Job) (r : Result)
     → ((t i : ℕ) → t ≤ length (j .turns) → getD (j .ops) i noOp .kind ≡ Search → Waits (stateAt j t) i → ⊥)
-    → searches j ≡ true
+    → searches j r ≡ true
 unfolding searches
-searches-true j h =
+searches-true j r h =
     every-true _ _
     (λ t l.
     every-true _ _
@@ -265,15 +270,15 @@ searches-true j h =
     (says-waits _ i (and-right (isSearch (getD (j .ops) i noOp .kind)) _ e)))))
 
 pub progress-true
-    : (j : Job)
+    : (j : Job) (r : Result)
     → ((t i : ℕ)
     → t ≤ length (j .turns)
     → i < length (j .ops)
     → (stageOf (stateAt j t) i ≡ Done → ⊥)
     → (k : ℕ) × (k < length (j .ops)) × (stageOf (stateAt j t) k ≡ Done → ⊥) × (Waits (stateAt j t) k → ⊥))
-    → progress j ≡ true
+    → progress j r ≡ true
 unfolding progress progressAt
-progress-true j h =
+progress-true j r h =
     every-true _ _
     (λ t m.
     every-or _ (λ i. isDone (stageOf (stateAt j t) i)) _
@@ -283,41 +288,43 @@ progress-true j h =
     (is-and (is-not (λ x. k .2 (says-done _ x))) (is-not (λ x. k .3 (says-waits _ _ x))))))
 
 pub finished-true
-    : (j : Job)
-    → ((i : ℕ) → i < length (j .ops) → stageOf (run j) i ≡ Done → answerOf j i .code ≡ notYet → ⊥)
-    → finished j ≡ true
+    : (j : Job) (r : Result)
+    → ((i : ℕ) → i < length (j .ops) → stageOf (run j) i ≡ Done → answerAt r i .code ≡ notYet → ⊥)
+    → finished j r ≡ true
 unfolding finished
-finished-true j h = every-true _ _ (λ i l. is-or (λ e. is-not (λ c. h i l (says-done _ (not-false _ e)) (eqb-true _ _ c))))
+finished-true j r h = every-true _ _ (λ i l. is-or (λ e. is-not (λ c. h i l (says-done _ (not-false _ e)) (eqb-true _ _ c))))
 
 -- all of them
 pub passes
-    : (j : Job)
-    → Explained j
-    → (answers j ≡ true)
-    × (refused j ≡ true)
-    × (once j ≡ true)
-    × (noOther j ≡ true)
-    × (sorted j ≡ true)
-    × (held j ≡ true)
-    × (charged j ≡ true)
-    × (listOnce j ≡ true)
-    × (fileOnce j ≡ true)
-    × (order j ≡ true)
-    × (searches j ≡ true)
-    × (progress j ≡ true)
-    × (finished j ≡ true)
-passes j e = (
-  answers-true j (e .answers),
-  refused-true j (e .refused),
-  once-true j (e .once),
-  noOther-true j (e .noOther),
-  sorted-true j (e .sorted),
-  held-true j (e .held),
-  charged-true j (e .charged),
-  listOnce-true j (e .listOnce),
-  fileOnce-true j (e .fileOnce),
-  order-true j (e .order),
-  searches-true j (e .searches),
-  progress-true j (e .progress),
-  finished-true j (e .finished),
+    : (j : Job) (r : Result)
+    → Explained j r
+    → (count j r ≡ true)
+    × (answers j r ≡ true)
+    × (refused j r ≡ true)
+    × (once j r ≡ true)
+    × (noOther j r ≡ true)
+    × (sorted j r ≡ true)
+    × (held j r ≡ true)
+    × (charged j r ≡ true)
+    × (listOnce j r ≡ true)
+    × (fileOnce j r ≡ true)
+    × (order j r ≡ true)
+    × (searches j r ≡ true)
+    × (progress j r ≡ true)
+    × (finished j r ≡ true)
+passes j r e = (
+  count-true j r (e .count),
+  answers-true j r (e .answers),
+  refused-true j r (e .refused),
+  once-true j r (e .once),
+  noOther-true j r (e .noOther),
+  sorted-true j r (e .sorted),
+  held-true j r (e .held),
+  charged-true j r (e .charged),
+  listOnce-true j r (e .listOnce),
+  fileOnce-true j r (e .fileOnce),
+  order-true j r (e .order),
+  searches-true j r (e .searches),
+  progress-true j r (e .progress),
+  finished-true j r (e .finished),
 )

@@ -12,7 +12,7 @@ use Rattle.spec.specs.Encode.{headerFor}
 use Rattle.spec.specs.Decode.{headerOf, fileOf, jobOf}
 use Rattle.spec.specs.State.{State}
 use Rattle.spec.specs.Run.{start, run}
-use Rattle.spec.specs.Result.{toldOf, resultOf, result, fileBytes}
+use Rattle.spec.specs.Result.{toldOf, fileBytes, fileLeft, resultOf, result}
 use Rattle.spec.specs.Check.{jobFault, resultSize}
 use Rattle.spec.specs.Outcome.{resultBytes}
 use Rattle.spec.specs.Proper.{FileOk}
@@ -42,7 +42,7 @@ run-shaped j =
 
 -- a charge file is as long after the run as it was before
 file-room : (j : Job) → FileOk (j .file) → length (fileBytes (result j .file)) ≤ fileLength (headerFor (j .file) 0 0)
-unfolding result resultOf fileBytes fileLength opsOffset tableOffset headerFor
+unfolding result resultOf fileLeft fileBytes fileLength opsOffset tableOffset headerFor
 file-room j ok =
     if-case (λ f. length (fileBytes f) ≤ fileLength (headerFor (j .file) 0 0))
     (λ e.

@@ -1,4 +1,5 @@
--- The claim weighed: each field of `Explained` as a test that computes, and small jobs on which every test passes.
+-- The claim weighed: each field of `Explained` as a test that computes, and small jobs on which every test passes, with the result that is read
+-- from the bytes that are written.
 -- For each field there is a changed definition under which its test fails on one of these jobs (tests/edits), so no field is there for nothing.
 -- That a test is true where its field holds is proved in Refutes: a test that fails refutes the claim.
 use Prim.Native.Nat.{ℕ, zero, suc}
@@ -21,9 +22,10 @@ use Rattle.spec.specs.Job.{Job, noOp}
 use Rattle.spec.specs.Decode.{jobOf}
 use Rattle.spec.specs.State.{State}
 use Rattle.spec.specs.Run.{idle, stageOf, run}
-use Rattle.spec.specs.Result.{Line, result}
+use Rattle.spec.specs.Result.{Line, Result, result, encodeResult, readResult}
 use Rattle.spec.specs.PlainList.{Reply, replyOf}
-use Rattle.spec.specs.Claims.{stateAt, times, log, lineAt, opAt, answerOf, fed}
+use Rattle.spec.specs.Check.{jobFault}
+use Rattle.spec.specs.Claims.{stateAt, times, lineAt, answerAt, opAt, fed}
 use Rattle.spec.specs.Worked.{jobB, jobInsert, jobG}
 use Rattle.spec.specs.Opened.{opened}
 
@@ -68,10 +70,14 @@ sameFile f h =
     && same eqb (f .directory) (h .directory)
     && same samePage (f .table) (h .table)
 
--- a file, where there is one, is this one
-unfoldable pub isFile : Option File → File → Bool
+-- the bytes of a charge file, where there is one: accepted as a job, which has no operations and no turns, and is this file
+unfoldable pub isFile : Option (List ℕ) → File → Bool
 isFile none h = true
-isFile (some f) h = sameFile f h
+isFile (some b) h =
+    not (isSome (jobFault b))
+    && sameFile (jobOf b .file) h
+    && eqb (length (jobOf b .ops)) 0
+    && eqb (length (jobOf b .turns)) 0
 
 unfoldable pub isDone : Stage → Bool
 isDone NotBegun = false
@@ -97,69 +103,72 @@ ended j i t = not (isDone (stageOf (stateAt j t) i)) && isDone (stageOf (stateAt
 unfoldable pub first : Job → ℕ → ℕ → Bool
 first j i t = eqb (getD (j .turns) t 0) i && every t (λ u. not (eqb (getD (j .turns) u 0) i))
 
-abbrev codeOf : Job → ℕ → ℕ
-codeOf j i = answerOf j i .code
+abbrev codeOf : Result → ℕ → ℕ
+codeOf r i = answerAt r i .code
 
--- The fields, in the claim's order.
-unfoldable pub answers : Job → Bool
-answers j = same sameReply (fed j (length (log j)) .replies) (map (λ h. replyOf (answerOf j (h .op))) (log j))
+-- The fields, in the claim's order, of a job and a result.
+unfoldable pub count : Job → Result → Bool
+count j r = eqb (length (r .answers)) (length (j .ops))
 
-unfoldable pub refused : Job → Bool
-refused j =
-    every (length (log j))
+unfoldable pub answers : Job → Result → Bool
+answers j r = same sameReply (fed j r (length (r .log)) .replies) (map (λ h. replyOf (answerAt r (h .op))) (r .log))
+
+unfoldable pub refused : Job → Result → Bool
+refused j r =
+    every (length (r .log))
     (λ p.
-    not (eqb (codeOf j (lineAt j p .op)) noDepth || eqb (codeOf j (lineAt j p .op)) noPage)
-    || (not (isSome (findIn (fed j p .list) (opAt j p .call))) && same sameRec (fed j (suc p) .list) (fed j p .list)))
+    not (eqb (codeOf r (lineAt r p .op)) noDepth || eqb (codeOf r (lineAt r p .op)) noPage)
+    || (not (isSome (findIn (fed j r p .list) (opAt j r p .call))) && same sameRec (fed j r (suc p) .list) (fed j r p .list)))
 
-unfoldable pub once : Job → Bool
-once j = every (length (j .ops)) (λ i. eqb (codeOf j i) notYet || eqb (times i (log j)) 1)
+unfoldable pub once : Job → Result → Bool
+once j r = every (length (j .ops)) (λ i. eqb (codeOf r i) notYet || eqb (times i (r .log)) 1)
 
-unfoldable pub noOther : Job → Bool
-noOther j = every (length (j .ops)) (λ i. not (eqb (codeOf j i) notYet) || eqb (times i (log j)) 0)
+unfoldable pub noOther : Job → Result → Bool
+noOther j r = every (length (j .ops)) (λ i. not (eqb (codeOf r i) notYet) || eqb (times i (r .log)) 0)
 
 unfoldable pub precedes : Line → Line → Bool
 precedes a b = ltb (a .moment) (b .moment) || (eqb (a .moment) (b .moment) && ltb (a .op) (b .op))
 
-unfoldable pub sorted : Job → Bool
-sorted j = every (length (log j)) (λ q. every q (λ p. precedes (lineAt j p) (lineAt j q)))
+unfoldable pub sorted : Job → Result → Bool
+sorted j r = every (length (r .log)) (λ q. every q (λ p. precedes (lineAt r p) (lineAt r q)))
 
-unfoldable pub held : Job → Bool
-held j =
-    let list : List Rec = fed j (length (log j)) .list in
+unfoldable pub held : Job → Result → Bool
+held j r =
+    let list : List Rec = fed j r (length (r .log)) .list in
     let file : List Rec = contents (run j .file) in
-    allOf (λ r. member r file) list && allOf (λ r. member r list) file
+    allOf (λ c. member c file) list && allOf (λ c. member c list) file
 
-unfoldable pub charged : Job → Bool
-charged j = isFile (result j .file) (run j .file)
+unfoldable pub charged : Job → Result → Bool
+charged j r = isFile (r .file) (run j .file)
 
-unfoldable pub listOnce : Job → Bool
-listOnce j = every (suc (length (log j))) (λ n. noneTwice (fed j n .list))
+unfoldable pub listOnce : Job → Result → Bool
+listOnce j r = every (suc (length (r .log))) (λ n. noneTwice (fed j r n .list))
 
-unfoldable pub fileOnce : Job → Bool
-fileOnce j = every (suc (length (j .turns))) (λ t. noneTwice (contents (stateAt j t .file)))
+unfoldable pub fileOnce : Job → Result → Bool
+fileOnce j r = every (suc (length (j .turns))) (λ t. noneTwice (contents (stateAt j t .file)))
 
 -- no line's operation ended before the first turn of the operation of a line that stands no later
-unfoldable pub order : Job → Bool
-order j =
-    every (length (log j))
+unfoldable pub order : Job → Result → Bool
+order j r =
+    every (length (r .log))
     (λ q.
     every (suc q)
     (λ p.
-    every (length (j .turns)) (λ u. not (first j (lineAt j p .op) u) || every u (λ t. not (ended j (lineAt j q .op) t)))))
+    every (length (j .turns)) (λ u. not (first j (lineAt r p .op) u) || every u (λ t. not (ended j (lineAt r q .op) t)))))
 
-unfoldable pub searches : Job → Bool
-searches j =
+unfoldable pub searches : Job → Result → Bool
+searches j r =
     every (suc (length (j .turns)))
     (λ t. every (length (j .ops)) (λ i. not (isSearch (getD (j .ops) i noOp .kind) && waits (stateAt j t) i)))
 
 unfoldable pub progressAt : State → ℕ → Bool
 progressAt s m = every m (λ i. isDone (stageOf s i)) || some-of m (λ k. not (isDone (stageOf s k)) && not (waits s k))
 
-unfoldable pub progress : Job → Bool
-progress j = every (suc (length (j .turns))) (λ t. progressAt (stateAt j t) (length (j .ops)))
+unfoldable pub progress : Job → Result → Bool
+progress j r = every (suc (length (j .turns))) (λ t. progressAt (stateAt j t) (length (j .ops)))
 
-unfoldable pub finished : Job → Bool
-finished j = every (length (j .ops)) (λ i. not (isDone (stageOf (run j) i)) || not (eqb (codeOf j i) notYet))
+unfoldable pub finished : Job → Result → Bool
+finished j r = every (length (j .ops)) (λ i. not (isDone (stageOf (run j) i)) || not (eqb (codeOf r i) notYet))
 
 abbrev op : Kind → ℕ → ℕ → Op
 op k n c = record { kind = k; call = n; charge = c }
@@ -235,57 +244,62 @@ jobs =
     ∷ twoWriters
     ∷ []
 
-abbrev Passes : (Job → Bool) → Type 0
-Passes test = map test jobs ≡ map (λ (j : Job). true) jobs
+-- each with the result that is read from what is written
+abbrev Passes : (Job → Result → Bool) → Type 0
+Passes test = map (λ (j : Job). test j (readResult (encodeResult (result j)))) jobs ≡ map (λ (j : Job). true) jobs
+
+count-passes : Passes count
+unfolding opened count
+count-passes = refl
 
 answers-passes : Passes answers
-unfolding opened stateAt times log answerOf fed every sameRec sameReply same member noneTwice isDone isSearch waits ended first precedes answers
+unfolding opened stateAt times answerAt fed every sameRec sameReply same member noneTwice isDone isSearch waits ended first precedes answers
 answers-passes = refl
 
 refused-passes : Passes refused
-unfolding opened stateAt times log answerOf fed every sameRec sameReply same member noneTwice isDone isSearch waits ended first precedes refused
+unfolding opened stateAt times answerAt fed every sameRec sameReply same member noneTwice isDone isSearch waits ended first precedes refused
 refused-passes = refl
 
 once-passes : Passes once
-unfolding opened stateAt times log answerOf fed every sameRec sameReply same member noneTwice isDone isSearch waits ended first precedes once
+unfolding opened stateAt times answerAt fed every sameRec sameReply same member noneTwice isDone isSearch waits ended first precedes once
 once-passes = refl
 
 noOther-passes : Passes noOther
-unfolding opened stateAt times log answerOf fed every sameRec sameReply same member noneTwice isDone isSearch waits ended first precedes noOther
+unfolding opened stateAt times answerAt fed every sameRec sameReply same member noneTwice isDone isSearch waits ended first precedes noOther
 noOther-passes = refl
 
 sorted-passes : Passes sorted
-unfolding opened stateAt times log answerOf fed every sameRec sameReply same member noneTwice isDone isSearch waits ended first precedes sorted
+unfolding opened stateAt times answerAt fed every sameRec sameReply same member noneTwice isDone isSearch waits ended first precedes sorted
 sorted-passes = refl
 
 held-passes : Passes held
-unfolding opened stateAt times log answerOf fed every sameRec sameReply same member noneTwice isDone isSearch waits ended first precedes held
+unfolding opened stateAt times answerAt fed every sameRec sameReply same member noneTwice isDone isSearch waits ended first precedes held
 held-passes = refl
 
 charged-passes : Passes charged
-unfolding opened stateAt times log answerOf fed every sameRec sameReply same samePage sameFile isFile charged
+unfolding opened stateAt times answerAt fed every sameRec sameReply same samePage sameFile isFile charged
 charged-passes = refl
 
 listOnce-passes : Passes listOnce
-unfolding opened stateAt times log answerOf fed every sameRec sameReply same member noneTwice isDone isSearch waits ended first precedes listOnce
+unfolding opened stateAt times answerAt fed every sameRec sameReply same member noneTwice isDone isSearch waits ended first precedes listOnce
 listOnce-passes = refl
 
 fileOnce-passes : Passes fileOnce
-unfolding opened stateAt times log answerOf fed every sameRec sameReply same member noneTwice isDone isSearch waits ended first precedes fileOnce
+unfolding opened stateAt times answerAt fed every sameRec sameReply same member noneTwice isDone isSearch waits ended first precedes fileOnce
 fileOnce-passes = refl
 
 order-passes : Passes order
-unfolding opened stateAt times log answerOf fed every sameRec sameReply same member noneTwice isDone isSearch waits ended first precedes order
+unfolding opened stateAt times answerAt fed every sameRec sameReply same member noneTwice isDone isSearch waits ended first precedes order
 order-passes = refl
 
 searches-passes : Passes searches
-unfolding opened stateAt times log answerOf fed every sameRec sameReply same member noneTwice isDone isSearch waits ended first precedes searches
+unfolding opened stateAt times answerAt fed every sameRec sameReply same member noneTwice isDone isSearch waits ended first precedes searches
 searches-passes = refl
 
 progress-passes : Passes progress
-unfolding opened stateAt times log answerOf fed every sameRec sameReply same member noneTwice isDone isSearch waits ended first precedes progressAt progress
+unfolding opened stateAt times answerAt fed every sameRec sameReply same member noneTwice isDone isSearch waits ended first precedes progressAt progress
 progress-passes = refl
 
 finished-passes : Passes finished
-unfolding opened stateAt times log answerOf fed every sameRec sameReply same member noneTwice isDone isSearch waits ended first precedes finished
+unfolding opened stateAt times answerAt fed every sameRec sameReply same member noneTwice isDone isSearch waits ended first precedes finished
 finished-passes = refl

@@ -7,7 +7,7 @@ use Rattle.spec.specs.Job.{kindOf}
 use Rattle.spec.specs.Decode.{headerOf, opOf, fileOf, jobOf}
 use Rattle.spec.specs.Report.{decimal, newline, kindWord, codeWord, jobLine, opLine}
 use Rattle.laws.specs.Codec.Rows.{counted}
-use Rattle.lines.specs.Told.{answerOf}
+use Rattle.spec.specs.Result.{answerOf}
 
 pub job-said
     : (b : List ℕ)

@@ -10,9 +10,9 @@ use words::put_kind;
 ghost use Prim.Native.Nat.{_+_, _≤_};
 ghost use lib.ListN.{length};
 ghost use Rattle.spec.specs.Decode.{jobOf, opOf};
+ghost use Rattle.spec.specs.Result.{answerOf, lineOf};
 ghost use Rattle.spec.specs.Report.{jobLine, opLine, atLine, refusedLine};
 ghost use Rattle.wire.specs.Wrote.{Wrote};
-ghost use Rattle.lines.specs.Told.{answerOf, lineOf};
 
 // "The `job` line has g, c, P, m and the turn count": in the header, g at 2, c at 3, P at 4, m at 8, turn count at 10.
 pub fn job_line(out: &mut [u8], at: usize, job: &[u8]) -> usize

@@ -15,11 +15,12 @@ use Rattle.spec.specs.Check.{Fault, jobFault, firstFault}
 use Rattle.spec.specs.Outcome.{resultBytes, outcomeBy, outcome, afterRun, bufferAfter, rowsAfter}
 use Rattle.spec.specs.Report.{refusedLine, printedBy, printed}
 use Rattle.laws.specs.Codec.Tools.{orElse-none}
+use Rattle.laws.specs.Codec.ResultBack.{ResultFits}
+use Rattle.laws.specs.ReadBack.{accepted-result-fits}
 use Rattle.wire.specs.Wrote.{Wrote}
 use Rattle.wire.specs.OverLaws.{over-parts}
 use Rattle.report.specs.Read.{reportOf}
 use Rattle.report.specs.Sound.{Sound}
-use Rattle.report.specs.Fits.{ResultFits}
 use Rattle.report.specs.Right.{report-sound}
 use Rattle.report.specs.Printed.{report-printed}
 use Rattle.turn.specs.declared.Row.{Row}
@@ -27,7 +28,6 @@ use Rattle.turn.specs.Rows.{blankRow}
 use Rattle.run.specs.Call.{lent, Settled}
 use Rattle.print.specs.Table.{fullTable}
 use Rattle.print.specs.Printed.{Stands}
-use Rattle.print.specs.Fits.{accepted-result-fits}
 
 -- a text written at the front of a buffer with room for it
 stands : {k n : ℕ} {s x t : List ℕ} → k ≤ length s → Wrote k s 0 x t n → Stands x s t n

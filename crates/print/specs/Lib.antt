@@ -2,5 +2,4 @@
 pub mod Printed
 pub mod Table
 -- laws
-pub mod Fits
 pub mod Enough

@@ -10,11 +10,10 @@ use Rattle.spec.specs.Bytes.{parts}
 use Rattle.spec.specs.File.{Page}
 use Rattle.spec.specs.Job.{noOp}
 use Rattle.spec.specs.Decode.{opOf, pageOf}
-use Rattle.spec.specs.Result.{Told}
+use Rattle.spec.specs.Result.{Told, answerOf}
 use Rattle.spec.specs.Report.{opLine, opLines, pageLine, pageLines}
 use Rattle.laws.specs.Codec.Tools.{getD-map}
 use Rattle.laws.specs.Codec.Parts.{length-parts, part-at}
-use Rattle.lines.specs.Told.{answerOf}
 use Rattle.text.specs.Sections.{parts-more}
 
 suc-add : (i n : ℕ) → suc i + n ≡ i + suc n

@@ -2,8 +2,5 @@
 pub mod Read
 pub mod Sound
 -- laws for callers' proofs: what the report of an accepted job's result is
-pub mod Fits
-pub mod Front
-pub mod Back
 pub mod Right
 pub mod Printed

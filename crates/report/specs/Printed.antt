@@ -9,8 +9,8 @@ use Rattle.spec.specs.Result.{result}
 use Rattle.spec.specs.Check.{jobFault}
 use Rattle.spec.specs.Outcome.{resultBytes}
 use Rattle.spec.specs.Report.{printedBy, printed}
+use Rattle.laws.specs.Codec.ResultBack.{ResultFits}
 use Rattle.report.specs.Read.{reportOf}
-use Rattle.report.specs.Fits.{ResultFits}
 use Rattle.report.specs.Right.{report-same}
 
 -- its result's bytes stand at the front of `res`

@@ -6,8 +6,7 @@ use lib.ListN.{length, take, drop}
 use Rattle.spec.specs.Bytes.{byte, word, long}
 use Rattle.spec.specs.Job.{maxCapacity, maxPages, maxOps, headerSize, cAt, limitAt, usedAt, opCountAt, tableOffsetAt, opsOffsetAt, recordSize, pageSize, opSize, tableOffset, opsOffset}
 use Rattle.spec.specs.Decode.{headerOf}
-use Rattle.spec.specs.Result.{answerSize, lineSize, answersOffset}
-use Rattle.report.specs.Read.{answerCountAt, lineCountAt, answersAt, logAt, fileAt}
+use Rattle.spec.specs.Result.{answerCountAt, lineCountAt, answersAt, logAt, fileAt, resultTotalAt, answerSize, lineSize, answersOffset, filePart}
 
 -- the operations, and an answer for each
 pub record OpsSound (job res : List ℕ) : Type 0 where
@@ -39,7 +38,13 @@ pub record FileSound (b : List ℕ) : Type 0 where
   pub table : long b tableOffsetAt + pageSize (byte b cAt) * word b usedAt ≤ length b
   pub counts : Counts (drop (long b tableOffsetAt) b) (pageSize (byte b cAt)) (word b usedAt)
 
+-- the charge file of a result, from its offset to the total
+pub record ChargeSound (res : List ℕ) : Type 0 where
+  pub ordered : long res fileAt ≤ long res resultTotalAt
+  pub within : long res resultTotalAt ≤ length res
+  pub file : FileSound (filePart res)
+
 pub record Sound (job res : List ℕ) : Type 0 where
   pub ops : OpsSound job res
   pub log : LogSound res
-  pub file : (long res fileAt ≡ 0 → ⊥) → FileSound (drop (long res fileAt) res)
+  pub charge : (long res fileAt ≡ 0 → ⊥) → ChargeSound res

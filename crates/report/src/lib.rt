@@ -11,8 +11,10 @@ ghost use Rattle.wire.specs.Wrote.{Wrote};
 ghost use Rattle.report.specs.Read.{reportOf};
 ghost use Rattle.report.specs.Sound.{Sound};
 
-// Where a result's header has the offset of its charge file, or 0.
+// Where a result's header has the offset of its charge file, or 0, and the total.
 const FILE: usize = 16;
+
+const TOTAL: usize = 20;
 
 // 85,089 bytes are always enough: 97 for the job, and 256 times 74 for an operation, 28 for a line of the log and 230 for a page.
 pub fn report(out: &mut [u8], job: &[u8], result: &[u8]) -> usize
@@ -26,7 +28,8 @@ pub fn report(out: &mut [u8], job: &[u8], result: &[u8]) -> usize
     if file == 0 {
         return end;
     }
-    sections::file_lines(out, end, &result[file..])
+    let total = u32_at(result, TOTAL) as usize;
+    sections::file_lines(out, end, &result[file..total])
 }
 
 // Number and place have at most twenty digits each.

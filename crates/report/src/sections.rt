@@ -12,12 +12,10 @@ ghost use lib.ListN.{length};
 ghost use Rattle.spec.specs.Basics.{each};
 ghost use Rattle.spec.specs.Bytes.{parts};
 ghost use Rattle.spec.specs.Job.{opSize};
-ghost use Rattle.spec.specs.Decode.{opOf, pageOf, fileOf, jobOf};
-ghost use Rattle.spec.specs.Result.{answerSize, lineSize};
+ghost use Rattle.spec.specs.Decode.{opOf, pageOf, jobOf};
+ghost use Rattle.spec.specs.Result.{answerSize, lineSize, answerOf, lineOf, answersIn, logIn};
 ghost use Rattle.spec.specs.Report.{opLines, atLine, pageLines, pagesPart};
 ghost use Rattle.wire.specs.Wrote.{Wrote};
-ghost use Rattle.lines.specs.Told.{answerOf, lineOf};
-ghost use Rattle.report.specs.Read.{answersIn, logIn};
 ghost use Rattle.report.specs.Sound.{OpsSound, LogSound, FileSound, Counts};
 
 // Where a job's header has its counts and offsets: c, pages in use, offsets of page table and operations.
@@ -109,7 +107,7 @@ pub fn log_lines(out: &mut [u8], at: usize, result: &[u8]) -> usize
 // The `page` lines: "only with a charge file and for pages in use".
 pub fn file_lines(out: &mut [u8], at: usize, file: &[u8]) -> usize
     requires { ⌜ (at + 58880 ≤ length (now out)) × FileSound (now file) ⌝ }
-    ensures { λ r. ⌜ Wrote 58880 (now (out .entry)) at (pagesPart (some (fileOf (now (file .entry))))) (now (out .exit)) r ⌝ }
+    ensures { λ r. ⌜ Wrote 58880 (now (out .entry)) at (pagesPart (some (now (file .entry)))) (now (out .exit)) r ⌝ }
 {
     let c = u8_at(file, CAPACITY);
     let used = u16_at(file, IN_USE);

@@ -10,7 +10,7 @@ use lib.Seq.{drop-drop, take-add, getD-drop, length-take-le}
 use Rattle.spec.specs.Basics.{each}
 use Rattle.spec.specs.Bytes.{byte, word, two, four}
 use Rattle.spec.specs.File.{File, zeroPage, pageAt, entryAt}
-use Rattle.spec.specs.Job.{pageSize, tableOffset, opsOffset, turnsOffset, total}
+use Rattle.spec.specs.Job.{jobVersion, pageSize, tableOffset, opsOffset, turnsOffset, total}
 use Rattle.spec.specs.Encode.{headerBytes, headerFor, pageBytes, encodeJob, encodeFile}
 use Rattle.spec.specs.Check.{workSize}
 use Rattle.laws.specs.Codec.Numbers.{low, high, two-read}
@@ -29,7 +29,7 @@ use Rattle.result.specs.Finish.{fileHeader, fileSize, FileShown}
 -- the header, written in four pieces: depth and capacity are a byte each
 pub file-header
     : {s₁ s₂ s₃ s₄ : List ℕ} (s : List ℕ) (at g c P u T E : ℕ)
-    → s₁ ≡ over s at (two 1 ++ two (g + 256 * c) ++ two P ++ two u)
+    → s₁ ≡ over s at (two jobVersion ++ two (g + 256 * c) ++ two P ++ two u)
     → s₂ ≡ over s₁ (at + 8) (replicate 4 0)
     → s₃ ≡ over s₂ (at + 12) (four 32 ++ four T ++ four E ++ four E)
     → s₄ ≡ over s₃ (at + 28) (four E)
@@ -42,7 +42,7 @@ unfolding headerBytes tableOffset opsOffset turnsOffset total two four
 file-header s at g c P u T E p q r v h k e f =
     let x : 32 + 2 * 2 ^ g + (4 + 8 * c) * P + 10 * 0 ≡ 32 + 2 * 2 ^ g + (4 + 8 * c) * P = omega arith in
     let y : 32 + 2 * 2 ^ g + (4 + 8 * c) * P + 2 * 0 ≡ 32 + 2 * 2 ^ g + (4 + 8 * c) * P = omega arith in
-    joined s (two 1 ++ two (g + 256 * c) ++ two P ++ two u) (replicate 4 0) (four 32 ++ four T ++ four E ++ four E) at (at + 8) (at + 12) (four E) (at + 28)
+    joined s (two jobVersion ++ two (g + 256 * c) ++ two P ++ two u) (replicate 4 0) (four 32 ++ four T ++ four E ++ four E) at (at + 8) (at + 12) (four E) (at + 28)
     p q r v refl (omega arith) (omega arith)
     ∙ rw (x, y, low 256 g c h, high 256 g c h, mod-eq-of-lt k, e, f)
 

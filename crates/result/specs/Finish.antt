@@ -8,7 +8,7 @@ use Rattle.spec.specs.File.{File, pageAt, entryAt}
 use Rattle.spec.specs.Job.{Header, pageSize}
 use Rattle.spec.specs.Encode.{pageBytes}
 use Rattle.spec.specs.State.{State}
-use Rattle.spec.specs.Result.{toldOf, countUnder, Result, answerSize, answerBytes, answersOffset, fileOffset, offsetField, encodeResult}
+use Rattle.spec.specs.Result.{toldOf, countUnder, Result, resultVersion, answerSize, answerBytes, answersOffset, fileOffset, offsetField, encodeResult}
 use Rattle.wire.specs.Over.{over}
 use Rattle.memory.specs.Memory.{entryIn, usedIn, partIn}
 use Rattle.result.specs.Lines.{Logged}
@@ -32,13 +32,14 @@ pub record FileShown (f : File) (g c P : ℕ) (w : List ℕ) : Type 0 where
   pub directory : length (f .directory) ≡ 2 ^ g
   pub table : length (f .table) ≡ suc P
 
--- the numbers in the header of a result whose charge file has n bytes
-pub record Heads (r : Result) (n m lines under file total : ℕ) : Type 0 where
+-- the numbers in the header of a result
+pub record Heads (r : Result) (m lines under file total : ℕ) : Type 0 where
+  pub version : r .version ≡ resultVersion
   pub answers : length (r .answers) ≡ m
   pub log : length (r .log) ≡ lines
   pub unended : r .unended ≡ under
-  pub offset : offsetField (r .file) (fileOffset r) ≡ file
-  pub end : fileOffset r + n ≡ total
+  pub offset : offsetField (r .file) (fileOffset (length (r .answers)) (length (r .log))) ≡ file
+  pub end : r .total ≡ total
 
 -- A run that is over, in the state s: its answers stand behind the header of the result buffer b, its marks in the memory w, which shows its
 -- file; `under` operations are begun but unfinished

@@ -7,10 +7,9 @@ use native.Mathlib.Omega.{arith}
 use lib.ListN.{length, take, drop, length-append, take-append-drop, length-map}
 use Rattle.spec.specs.Basics.{each}
 use Rattle.spec.specs.Bytes.{two, four}
-use Rattle.spec.specs.File.{File}
 use Rattle.spec.specs.Encode.{encodeFile}
 use Rattle.spec.specs.State.{State}
-use Rattle.spec.specs.Result.{toldOf, linesFrom, logOf, Result, resultOf, answerBytes, lineBytes, logOffset, fileOffset, offsetField, fileBytes, resultHeader, encodeResult}
+use Rattle.spec.specs.Result.{resultVersion, toldOf, linesFrom, logOf, Result, logOffset, fileOffset, offsetField, fileBytes, fileLeft, resultOf, answerBytes, lineBytes, resultHeader, encodeResult}
 use borrow.Author.Tests.{eq-eqb, ne-eqb}
 use Rattle.laws.specs.Tools.{if-true, if-false}
 use Rattle.laws.specs.Codec.Sizes.{length-result-header, length-answers, length-lines, length-result}
@@ -23,16 +22,16 @@ use Rattle.result.specs.Lines.{LogWritten}
 
 -- the header, in two pieces
 pub result-header
-    : {s₁ s₂ : List ℕ} (s : List ℕ) (r : Result) (n m lines under file total : ℕ)
-    → s₁ ≡ over s 0 (two 1 ++ two m ++ two lines ++ two under)
+    : {s₁ s₂ : List ℕ} (s : List ℕ) (r : Result) (m lines under file total : ℕ)
+    → s₁ ≡ over s 0 (two resultVersion ++ two m ++ two lines ++ two under)
     → s₂ ≡ over s₁ 8 (four 24 ++ four (24 + 8 * m) ++ four file ++ four total)
-    → Heads r n m lines under file total
-    → s₂ ≡ over s 0 (resultHeader r n)
+    → Heads r m lines under file total
+    → s₂ ≡ over s 0 (resultHeader r)
 unfolding resultHeader logOffset two four
-result-header s r n m lines under file total p q h =
-    let counts : List ℕ = two 1 ++ two m ++ two lines ++ two under in
+result-header s r m lines under file total p q h =
+    let counts : List ℕ = two resultVersion ++ two m ++ two lines ++ two under in
     let offsets : List ℕ = four 24 ++ four (24 + 8 * m) ++ four file ++ four total in
-    q ∙ rw (p, over-over counts offsets s 0 8 refl, ← h .answers, ← h .log, ← h .unended, ← h .offset, ← h .end)
+    q ∙ rw (p, over-over counts offsets s 0 8 refl, h .version, ← h .answers, ← h .log, ← h .unended, ← h .offset, ← h .end)
 
 -- ---- the whole
 
@@ -73,12 +72,13 @@ finished
     → take (8 * m) (drop 24 b) ≡ each answerBytes (r .answers)
     → b₁ ≡ over b (24 + 8 * m) (each lineBytes (r .log))
     → b₂ ≡ over b₁ (logEnd m lines) (fileBytes (r .file))
-    → Heads r (length (fileBytes (r .file))) m lines under file total
-    → b₃ ≡ over b₂ 0 (resultHeader r (length (fileBytes (r .file))))
+    → Heads r m lines under file total
+    → logEnd m lines + length (fileBytes (r .file)) ≡ total
+    → b₃ ≡ over b₂ 0 (resultHeader r)
     → total ≤ length b
     → Finished r b b₃ total
-unfolding encodeResult fileOffset logOffset
-finished {b} {m = m} {lines = lines} r a p q h v l =
+unfolding encodeResult
+finished {b} {m = m} {lines = lines} r a p q h t v l =
     let A : List ℕ = each answerBytes (r .answers) in
     let B : List ℕ = each lineBytes (r .log) in
     let F : List ℕ = fileBytes (r .file) in
@@ -86,31 +86,32 @@ finished {b} {m = m} {lines = lines} r a p q h v l =
     let k : length B ≡ 4 * lines = length-lines (r .log) ∙ (omega (arith, h .log)) in
     record {
       bytes =
-          pieces b (resultHeader r (length F)) A B F (24 + 8 * m) (logEnd m lines) (rw n a) p q v (length-result-header r (length F))
+          pieces b (resultHeader r) A B F (24 + 8 * m) (logEnd m lines) (rw n a) p q v (length-result-header r)
           (omega arith)
           (omega arith)
-          (omega (arith, h .end, h .answers, h .log));
-      total = omega (arith, length-result r, h .end);
+          (omega arith);
+      total = omega (arith, length-result r, h .answers, h .log);
       fits = l;
     }
 
 -- the run is over, and its log is written
 module _ {s : State} {g c P m under : ℕ} {b b₁ w : List ℕ} {lines : ℕ} (y : Ready s g c P m under b w) (l : LogWritten w m b (24 + 8 * m) b₁ lines) where
   heads
-      : (n file total : ℕ)
+      : (file total : ℕ)
       → offsetField (resultOf s .file) (logEnd m lines) ≡ file
-      → logEnd m lines + n ≡ total
-      → Heads (resultOf s) n m lines under file total
+      → logEnd m lines + length (fileBytes (resultOf s .file)) ≡ total
+      → Heads (resultOf s) m lines under file total
   unfolding resultOf logOf fileOffset logOffset
-  heads n file total e f =
+  heads file total e f =
       let a : length (map toldOf (s .rows)) ≡ m = length-map (s .rows) toldOf ∙ y .logged .count in
       let k : length (linesFrom (s .now) 0 (s .rows)) ≡ lines = sym (l .lines (s .rows) (s .now) (y .logged)) in
       record {
+        version = refl;
         answers = a;
         log = k;
         unended = y .unended;
         offset = rw (a, k) e;
-        end = rw (a, k) f;
+        end = rw (y .logged .count, k) f;
       }
 
   written : b₁ ≡ over b (24 + 8 * m) (each lineBytes (resultOf s .log))
@@ -119,27 +120,26 @@ module _ {s : State} {g c P m under : ℕ} {b b₁ w : List ℕ} {lines : ℕ} (
 
   -- with the charge file F, or none
   whole
-      : {b₂ b₃ : List ℕ} {file total : ℕ} (F : Option File)
+      : {b₂ b₃ : List ℕ} {file total : ℕ} (F : Option (List ℕ))
       → resultOf s .file ≡ F
       → b₂ ≡ over b₁ (logEnd m lines) (fileBytes F)
       → offsetField F (logEnd m lines) ≡ file
       → logEnd m lines + length (fileBytes F) ≡ total
-      → ((r : Result) (n : ℕ) → Heads r n m lines under file total → b₃ ≡ over b₂ 0 (resultHeader r n))
+      → ((r : Result) → Heads r m lines under file total → b₃ ≡ over b₂ 0 (resultHeader r))
       → total ≤ length b
       → Finished (resultOf s) b b₃ total
   unfolding resultOf
   whole {file = file} {total = total} F e q o t h f =
-      let n = length (fileBytes (resultOf s .file)) in
-      let H : Heads (resultOf s) n m lines under file total = heads n file total (rw e o) (rw e t) in
-      finished (resultOf s) (y .answers) written (rw e q) H (h (resultOf s) n H) f
+      let H : Heads (resultOf s) m lines under file total = heads file total (rw e o) (rw e t) in
+      finished (resultOf s) (y .answers) written (rw e q) H (rw e t) (h (resultOf s) H) f
 
   pub without-file
       : {b₂ : List ℕ}
       → (under ≡ 0 → ⊥)
-      → ((r : Result) (n : ℕ) → Heads r n m lines under 0 (logEnd m lines) → b₂ ≡ over b₁ 0 (resultHeader r n))
+      → ((r : Result) → Heads r m lines under 0 (logEnd m lines) → b₂ ≡ over b₁ 0 (resultHeader r))
       → logEnd m lines ≤ length b
       → Finished (resultOf s) b b₂ (logEnd m lines)
-  unfolding resultOf fileBytes offsetField
+  unfolding resultOf fileLeft fileBytes offsetField
   without-file u h f =
       whole none (if-false _ _ (ne-eqb _ _ (λ e. u (sym (y .unended) ∙ e)))) (sym (over-none b₁ (logEnd m lines))) refl (omega arith) h f
 
@@ -148,8 +148,8 @@ module _ {s : State} {g c P m under : ℕ} {b b₁ w : List ℕ} {lines : ℕ} (
       → under ≡ 0
       → b₂ ≡ over b₁ (logEnd m lines) (encodeFile (s .file))
       → length (encodeFile (s .file)) ≡ n
-      → ((r : Result) (k : ℕ) → Heads r k m lines under (logEnd m lines) (logEnd m lines + n) → b₃ ≡ over b₂ 0 (resultHeader r k))
+      → ((r : Result) → Heads r m lines under (logEnd m lines) (logEnd m lines + n) → b₃ ≡ over b₂ 0 (resultHeader r))
       → logEnd m lines + n ≤ length b
       → Finished (resultOf s) b b₃ (logEnd m lines + n)
-  unfolding resultOf fileBytes offsetField
-  with-file n u q e h f = whole (some (s .file)) (if-true _ _ (eq-eqb _ _ (y .unended ∙ u))) q refl (omega arith) h f
+  unfolding resultOf fileLeft fileBytes offsetField
+  with-file n u q e h f = whole (some (encodeFile (s .file))) (if-true _ _ (eq-eqb _ _ (y .unended ∙ u))) q refl (omega arith) h f

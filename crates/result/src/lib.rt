@@ -1,5 +1,6 @@
 // The result of a run, in the lent result buffer: "Header, 24 bytes", answers, log and charge file. The caller tells the operations' rows one
 // by one, and then has the rest written. No function here takes the table of rows.
+use header::Header;
 use turn::Row;
 ghost use mathlib.Core.Path.{_≡_};
 ghost use mathlib.Core.List.{_++_};
@@ -16,7 +17,8 @@ ghost use Rattle.result.specs.Marks.{markNumber, begunNumber, withAnswer
 ghost use Rattle.result.specs.Lines.{line, withLine, LogWritten};
 ghost use Rattle.result.specs.Finish.{Heads, fileHeader, fileSize, FileShown, Ready, Finished};
 
-const VERSION: usize = 1;
+// "Header, 24 bytes: version 1, .." The charge file behind it is a job, and has the job's version.
+const RESULT_VERSION: usize = 1;
 
 const ANSWERS: usize = 24;
 
@@ -145,9 +147,9 @@ fn put_offsets(result: &mut [u8], at: usize, a: usize, b: usize, c: usize, d: us
 // .., and the total (4 each)"
 fn write_header(result: &mut [u8], m: usize, lines: usize, under: usize, file: usize, total: usize)
     requires { ⌜ (24 ≤ length (now result)) × (m ≤ 256) × (file < 2 ^ 32) × (total < 2 ^ 32) ⌝ }
-    ensures { λ _. ⌜ ((r : Result) (n : ℕ) → Heads r n m lines under file total → now (result .exit) ≡ over (now (result .entry)) 0 (resultHeader r n)) ⌝ }
+    ensures { λ _. ⌜ ((r : Result) → Heads r m lines under file total → now (result .exit) ≡ over (now (result .entry)) 0 (resultHeader r)) ⌝ }
 {
-    put_counts(result, 0, VERSION, m, lines, under);
+    put_counts(result, 0, RESULT_VERSION, m, lines, under);
     put_offsets(result, 8, ANSWERS, ANSWERS + 8 * m, file, total);
 }
 
@@ -181,7 +183,14 @@ fn put_file_header(
 {
     let table = 32 + 2 * entries(depth);
     let end = file_length(depth, capacity, pages);
-    put_counts(result, at, VERSION, depth + 256 * capacity, pages, used);
+    put_counts(
+        result,
+        at,
+        Header::VERSION,
+        depth + 256 * capacity,
+        pages,
+        used,
+    );
     wire::clear(result, at + 8, 4);
     put_offsets(result, at + 12, 32, table, end, end);
     wire::put_u32(result, at + 28, end as u32);

@@ -1,21 +1,24 @@
 -- What a call comes to: refused, with nothing written, or run.
-use mathlib.Core.Path.{_≡_, refl, sym}
+use mathlib.Core.Path.{_≡_, refl, sym, ap, _∙_}
 use mathlib.Core.Bool.{true, false}
 use mathlib.Core.List.{List}
 use mathlib.Core.Option.{Option, none, some}
 use Prim.Native.Nat.{ℕ, _≤_}
 use native.Mathlib.Omega.{arith}
-use lib.ListN.{length}
+use lib.ListN.{length, drop}
 use Rattle.spec.specs.declared.Spot.the-variants.{At, Nowhere}
 use Rattle.spec.specs.declared.Stage.the-variants.{NotBegun}
 use Rattle.spec.specs.declared.Checked.the-variants.{Accepted as AcceptedBy, Refused as RefusedBy}
 use Rattle.spec.specs.declared.Outcome.the-variants.{Ran as RanFor}
 use Rattle.spec.specs.Basics.{if, orElse}
-use Rattle.spec.specs.Decode.{headerOf}
+use Rattle.spec.specs.Decode.{headerOf, jobOf}
+use Rattle.spec.specs.Result.{Result, result, readResult}
 use Rattle.spec.specs.Check.{Lent, Fault, workSize, resultSize, smallOutput, numbered, jobFault, firstFault}
 use Rattle.spec.specs.Cases.{spotOf, checkedOf}
-use Rattle.spec.specs.Outcome.{outcomeBy, outcome, afterRun, bufferAfter, rowsAfter, workAfter}
+use Rattle.spec.specs.Outcome.{resultBytes, outcomeBy, outcome, afterRun, bufferAfter, rowsAfter, workAfter}
 use Rattle.laws.specs.Codec.Tools.{failed, among-none, among-end}
+use Rattle.laws.specs.Codec.Sizes.{bytes-total}
+use Rattle.laws.specs.ReadBack.{reads}
 use Rattle.laws.specs.Demand3.{demand3}
 use Rattle.header.specs.declared.Header.{Header}
 use Rattle.header.specs.Counts.{countsOf}
@@ -24,7 +27,7 @@ use Rattle.turn.specs.Rows.{blankRow, stageIn}
 use Rattle.simulation.specs.RowBack.{blank-row}
 use Rattle.run.specs.Answer.{isAccepted, refusedBy}
 use Rattle.run.specs.Table.{Accepts}
-use Rattle.run.specs.Call.{lent, Accepted, Ran, Settled}
+use Rattle.run.specs.Call.{lent, Accepted, Ran, Written, Settled}
 
 -- the fixed value of a row says that its operation is not begun
 blank-stage : stageIn blankRow ≡ NotBegun
@@ -92,6 +95,16 @@ module _ {b s : List ℕ} {x : List Row} {w : List ℕ} (a : Accepted b s x w) w
   unfolding smallOutput
   enough h c = let z = simp (failed, among-none, among-end) at (neither .1) in (rw c (z .0), rw (← c) at (z .1 .0), z .1 .1 .0)
 
+  -- demand 3 of what is written
+  written : {t : List ℕ} {y : List Row} {u : List ℕ} {v : ℕ} → Ran b s t x y w u v → Written b t (RanFor v)
+  written {t} {v = v} r =
+      let back : readResult t ≡ result (jobOf b) = rw (r .result) (reads b (a .bytes) faultless (drop (length (resultBytes b)) s)) in
+      record {
+        reads = back;
+        total = ap RanFor (r .total ∙ bytes-total b ∙ sym (ap (λ (z : Result). z .total) back));
+        explained = rw (r .result) (demand3 b (drop (length (resultBytes b)) s) (a .bytes) faultless);
+      }
+
   pub ran : {t : List ℕ} {y : List Row} {u : List ℕ} {v : ℕ} → Ran b s t x y w u v → Settled b s t x y w u (RanFor v)
   unfolding outcome outcomeBy bufferAfter rowsAfter workAfter afterRun
   ran r =
@@ -102,7 +115,7 @@ module _ {b s : List ℕ} {x : List Row} {w : List ℕ} (a : Accepted b s x w) w
         rows = rw e (r .rows);
         work = rw e (r .work);
         fixed = (sym blank-row, blank-stage);
-        explained = demand3 b;
+        written = λ z. written r;
       }
 
 -- ---- a job that is refused: nothing lent is written
@@ -115,7 +128,7 @@ refused-by
 unfolding isAccepted refusedBy checkedOf outcome outcomeBy bufferAfter rowsAfter workAfter afterRun
 refused-by b s x w none q e = absurd (true-false e)
 refused-by b s x w (some f) q e =
-    record { answer = rw q; result = rw q; rows = rw q; work = rw q; fixed = (sym blank-row, blank-stage); explained = demand3 b }
+    record { answer = rw q; result = rw q; rows = rw q; work = rw q; fixed = (sym blank-row, blank-stage); written = λ z. absurd (some-none (sym q ∙ z)) }
 
 pub refused
     : (b s : List ℕ) (x : List Row) (w : List ℕ)

@@ -5,11 +5,13 @@ use mathlib.Core.Option.{none}
 use Prim.Native.Nat.{ℕ}
 use lib.ListN.{length, drop, replicate}
 use Rattle.spec.specs.declared.Outcome.{Outcome}
+use Rattle.spec.specs.declared.Outcome.the-variants.{Ran as RanFor}
 use Rattle.spec.specs.declared.Stage.the-variants.{NotBegun}
 use Rattle.spec.specs.Decode.{jobOf}
 use Rattle.spec.specs.State.{blank}
 use Rattle.spec.specs.Bytes.{AreBytes}
-use Rattle.spec.specs.Check.{Lent, jobFault, firstFault}
+use Rattle.spec.specs.Result.{result, readResult}
+use Rattle.spec.specs.Check.{Lent, firstFault}
 use Rattle.spec.specs.Claims.{Explained}
 use Rattle.spec.specs.Outcome.{resultBytes, outcome, bufferAfter, rowsAfter, workAfter}
 use Rattle.turn.specs.declared.Row.{Row}
@@ -31,8 +33,17 @@ pub record Ran (b s t : List ℕ) (x y : List Row) (w u : List ℕ) (v : ℕ) : 
   pub rows : y ≡ replicate (length x) blankRow
   pub work : u ≡ replicate (length w) 0
 
+-- DEMAND 3 OF THE BYTES THAT ARE WRITTEN: the job b ran, the call answered r, and the result buffer is now t
+pub record Written (b t : List ℕ) (r : Outcome) : Type 0 where
+  -- what is read from the buffer is the job's result: each number fits its field
+  pub reads : readResult t ≡ result (jobOf b)
+  -- the total in its header is the length that is told
+  pub total : r ≡ RanFor (readResult t .total)
+  -- its log explains every answer
+  pub explained : Explained (jobOf b) (readResult t)
+
 -- The whole outcome for the bytes b, accepted or refused: what is answered, and the result buffer, the table and the memory afterwards, which
--- were s, x and w; and demand 3 of the job that b means, if it is accepted
+-- were s, x and w; and for an accepted job demand 3 of the result that is now in the buffer
 pub record Settled (b s t : List ℕ) (x y : List Row) (w u : List ℕ) (r : Outcome) : Type 0 where
   pub answer : r ≡ outcome (lent s x w) b
   pub result : t ≡ bufferAfter (lent s x w) b s
@@ -40,4 +51,4 @@ pub record Settled (b s t : List ℕ) (x y : List Row) (w u : List ℕ) (r : Out
   pub work : u ≡ workAfter (lent s x w) b w
   -- the rows' fixed value "stands for an operation not begun": it is that row in numbers, and its numbers say so
   pub fixed : (blankRow ≡ rowImage blank) × (stageIn blankRow ≡ NotBegun)
-  pub explained : jobFault b ≡ none → Explained (jobOf b)
+  pub written : firstFault (lent s x w) b ≡ none → Written b t r

@@ -1,5 +1,5 @@
 -- "Refused jobs": for each number of the table, the lowest place at which its row holds, and the first fault of a job.
-use Prim.Native.Nat.{ℕ, suc, _+_, _*_, _^_}
+use Prim.Native.Nat.{ℕ, _+_, _*_, _^_}
 use mathlib.Core.List.{List, [], _∷_}
 use mathlib.Core.Bool.{Bool, not, _&&_, _||_}
 use mathlib.Core.Option.{Option, none, some}
@@ -10,7 +10,7 @@ use Rattle.spec.specs.Basics.{when, orElse, isSome, among, firstOf, anyO
 use Rattle.spec.specs.Bytes.{byte, word, long, zeros}
 use Rattle.spec.specs.Key.{index, begins}
 use Rattle.spec.specs.File.{Page, File, pageAt, pagesInUse, findIn}
-use Rattle.spec.specs.Job.{maxDepth, maxCapacity, maxPages, maxOps, maxTurns, Header, headerSize, version, versionAt, gAt, cAt, limitAt, usedAt, opCountAt, turnCountAt, directoryOffsetAt, tableOffsetAt, opsOffsetAt, turnsOffsetAt, totalAt, recordSize, directoryOffset, tableOffset, opsOffset, turnsOffset, total, entryPlace, pagePlace, recordPlace, opPlace, turnPlace, fileLength}
+use Rattle.spec.specs.Job.{minDepth, maxDepth, minCapacity, maxCapacity, minPages, maxPages, minOps, maxOps, minTurns, maxTurns, Header, headerSize, jobVersion, versionAt, gAt, cAt, limitAt, usedAt, opCountAt, turnCountAt, directoryOffsetAt, tableOffsetAt, opsOffsetAt, turnsOffsetAt, totalAt, recordSize, directoryOffset, tableOffset, opsOffset, turnsOffset, total, entryPlace, pagePlace, recordPlace, opPlace, turnPlace, fileLength}
 use Rattle.spec.specs.Decode.{headerOf, fileOf, pageParts, opParts, turnParts, numberOf}
 
 unfoldable pub outside : ℕ → ℕ → ℕ → Bool
@@ -22,19 +22,19 @@ short b = when (ltb (length b) headerSize) (length b)
 
 -- 2 version: "not 1". "and 0 for 2"
 unfoldable pub wrongVersion : List ℕ → Option ℕ
-wrongVersion b = when (not (eqb (word b versionAt) version)) versionAt
+wrongVersion b = when (not (eqb (word b versionAt) jobVersion)) versionAt
 
 -- 3 limit: "a count outside its limits, or U is 0 or above P"; "the first byte of the field"
 unfoldable pub overLimit : List ℕ → Option ℕ
 overLimit b =
     let h = headerOf b in
     among
-    (when (ltb maxDepth (h .g)) gAt
-    ∷ when (outside 1 maxCapacity (h .c)) cAt
-    ∷ when (outside 1 maxPages (h .limit)) limitAt
+    (when (outside minDepth maxDepth (h .g)) gAt
+    ∷ when (outside minCapacity maxCapacity (h .c)) cAt
+    ∷ when (outside minPages maxPages (h .limit)) limitAt
     ∷ when (outside 1 (h .limit) (h .used)) usedAt
-    ∷ when (ltb maxOps (h .ops)) opCountAt
-    ∷ when (ltb maxTurns (h .turns)) turnCountAt
+    ∷ when (outside minOps maxOps (h .ops)) opCountAt
+    ∷ when (outside minTurns maxTurns (h .turns)) turnCountAt
     ∷ [])
 
 -- 4 offset: "an offset or total not as computed; length not the total (place 28)"
@@ -148,19 +148,38 @@ unfoldable pub numbered : ℕ → Option ℕ → Option Fault
 numbered n none = none
 numbered n (some p) = some (record { number = n; place = p })
 
--- the first of some rows, numbered from n on, that holds
-unfoldable pub firstRow : ℕ → List (List ℕ → Option ℕ) → List ℕ → Option Fault
-firstRow n [] b = none
-firstRow n (r ∷ rs) b = let rest = firstRow (suc n) rs b in orElse (numbered n (r b)) rest
+-- A row of the table: its number, and a test that tells the lowest place of a job's bytes at which the row holds.
+pub record Refusal : Type 0 where
+  pub number : ℕ
+  pub test : List ℕ → Option ℕ
 
--- the rows that are about a job's bytes alone, 1 to 10
-abbrev pub rows : List (List ℕ → Option ℕ)
+abbrev pub row : ℕ → (List ℕ → Option ℕ) → Refusal
+row n t = record { number = n; test = t }
+
+-- "Checked by rising number except that 11 comes last, then by lowest place": the rows that are about a job's bytes alone, in the order in which
+-- they are checked
+abbrev pub rows : List Refusal
 rows =
-    short ∷ wrongVersion ∷ overLimit ∷ wrongOffset ∷ wrongEntry ∷ wrongPage ∷ wrongOwner ∷ wrongRecord ∷ wrongOp ∷ wrongTurn ∷ []
+    row 1 short
+    ∷ row 2 wrongVersion
+    ∷ row 3 overLimit
+    ∷ row 4 wrongOffset
+    ∷ row 5 wrongEntry
+    ∷ row 6 wrongPage
+    ∷ row 7 wrongOwner
+    ∷ row 8 wrongRecord
+    ∷ row 9 wrongOp
+    ∷ row 10 wrongTurn
+    ∷ []
+
+-- the first of some rows, in the list's order, that holds
+unfoldable pub firstRow : List Refusal → List ℕ → Option Fault
+firstRow [] b = none
+firstRow (r ∷ rs) b = let rest = firstRow rs b in orElse (numbered (r .number) (r .test b)) rest
 
 unfoldable pub jobFault : List ℕ → Option Fault
-jobFault b = firstRow 1 rows b
+jobFault b = firstRow rows b
 
--- "Checked by rising number except that 11 comes last, then by lowest place"
+-- all rows: 11 asks what is lent too, and comes last
 unfoldable pub firstFault : Lent → List ℕ → Option Fault
 firstFault l b = let last = numbered 11 (smallOutput l b) in orElse (jobFault b) last

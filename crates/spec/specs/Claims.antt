@@ -1,8 +1,9 @@
--- Demand 3 as one record, `Explained`, and what is claimed: it holds for every accepted job, given as bytes. Definitions only.
+-- Demand 3 as one record, `Explained`, of a job and a result; and what is claimed: it holds for every accepted job, given as bytes, and the result
+-- that is read from the bytes that are written. Definitions only.
 use Prim.Native.Nat.{ℕ, suc, _<_, _≤_}
 use mathlib.Core.Path.{_≡_}
 use mathlib.Core.Logic.{_⊎_, _↔_}
-use mathlib.Core.List.{List, [], _∷_, map}
+use mathlib.Core.List.{List, [], _∷_, _++_, map}
 use mathlib.Core.Bool.{true}
 use mathlib.Core.Option.{none, some}
 use lib.ListN.{length, getD, take}
@@ -12,15 +13,17 @@ use Rattle.spec.specs.declared.Op.{Op}
 use Rattle.spec.specs.declared.Kind.the-variants.{Search}
 use Rattle.spec.specs.declared.Stage.the-variants.{Done}
 use Rattle.spec.specs.Basics.{if, Has}
+use Rattle.spec.specs.Bytes.{AreBytes}
 use Rattle.spec.specs.Code.{notYet, noDepth, noPage}
-use Rattle.spec.specs.File.{File, findIn, contents}
-use Rattle.spec.specs.Job.{Job, noOp}
+use Rattle.spec.specs.File.{findIn, contents}
+use Rattle.spec.specs.Job.{Job, fileJob, noOp}
 use Rattle.spec.specs.Decode.{jobOf}
 use Rattle.spec.specs.State.{State}
 use Rattle.spec.specs.Run.{idle, stageOf, steps, start, run}
-use Rattle.spec.specs.Result.{Told, Line, result}
+use Rattle.spec.specs.Result.{Told, Line, Result, readResult}
 use Rattle.spec.specs.PlainList.{replyOf, nothingTold, Replay, replay}
 use Rattle.spec.specs.Check.{jobFault}
+use Rattle.spec.specs.Outcome.{resultBytes}
 use Rattle.spec.specs.Proper.{NoneTwice}
 
 -- the state after the first t turns, that is before turn t (turns count from 0)
@@ -53,55 +56,58 @@ times i (h ∷ hs) = if (eqb (h .op) i) (suc (times i hs)) (times i hs)
 abbrev pub Before : Line → Line → Type 0
 Before a b = (a .moment < b .moment) ⊎ ((a .moment ≡ b .moment) × (a .op < b .op))
 
--- of a job's result: the log, its line at place p, the operation of that line, an operation's answer
-unfoldable pub log : Job → List Line
-log j = result j .log
-
+-- of a result: the line of its log at place p, and an operation's answer; the operation of that line is the job's
 abbrev pub noLine : Line
 noLine = record { moment = 0; op = 0 }
 
-abbrev pub lineAt : Job → ℕ → Line
-lineAt j p = getD (log j) p noLine
+abbrev pub lineAt : Result → ℕ → Line
+lineAt r p = getD (r .log) p noLine
 
-abbrev pub opAt : Job → ℕ → Op
-opAt j p = getD (j .ops) (lineAt j p .op) noOp
+unfoldable pub answerAt : Result → ℕ → Told
+answerAt r i = getD (r .answers) i nothingTold
 
-unfoldable pub answerOf : Job → ℕ → Told
-answerOf j i = getD (result j .answers) i nothingTold
+abbrev pub opAt : Job → Result → ℕ → Op
+opAt j r p = getD (j .ops) (lineAt r p .op) noOp
 
 -- the plain list, which "starts as what the file held when it came in", fed the first n lines of the log: its replies, and the list then
-unfoldable pub fed : Job → ℕ → Replay
-fed j n = replay (j .ops) (result j .answers) (take n (log j)) (contents (j .file))
+unfoldable pub fed : Job → Result → ℕ → Replay
+fed j r n = replay (j .ops) (r .answers) (take n (r .log)) (contents (j .file))
 
--- The turn list of a job is explained by its log, on the plain list.
-pub record Explained (j : Job) : Type 0 where
+-- the bytes meet none of rows 1 to 10 (row 11 is about what is lent)
+abbrev pub Accepted : List ℕ → Type 0
+Accepted b = jobFault b ≡ none
+
+-- The turn list of the job j is explained by the log of the result r, on the plain list.
+pub record Explained (j : Job) (r : Result) : Type 0 where
+  -- an answer for each operation
+  pub count : length (r .answers) ≡ length (j .ops)
   -- "Line for line, its code and charge equal those in the result"
-  pub answers : fed j (length (log j)) .replies ≡ map (λ h. replyOf (answerOf j (h .op))) (log j)
+  pub answers : fed j r (length (r .log)) .replies ≡ map (λ h. replyOf (answerAt r (h .op))) (r .log)
   -- an insert told 7 or 8 finds its call missing, and changes nothing
   pub refused
       : (p : ℕ)
-      → p < length (log j)
-      → (answerOf j (lineAt j p .op) .code ≡ noDepth) ⊎ (answerOf j (lineAt j p .op) .code ≡ noPage)
-      → (findIn (fed j p .list) (opAt j p .call) ≡ none) × (fed j (suc p) .list ≡ fed j p .list)
+      → p < length (r .log)
+      → (answerAt r (lineAt r p .op) .code ≡ noDepth) ⊎ (answerAt r (lineAt r p .op) .code ≡ noPage)
+      → (findIn (fed j r p .list) (opAt j r p .call) ≡ none) × (fed j r (suc p) .list ≡ fed j r p .list)
   -- "the log has each operation whose code is not 0 once, and no other"
-  pub once : (i : ℕ) → (answerOf j i .code ≡ notYet → ⊥) → times i (log j) ≡ 1
-  pub noOther : (i : ℕ) → answerOf j i .code ≡ notYet → times i (log j) ≡ 0
+  pub once : (i : ℕ) → (answerAt r i .code ≡ notYet → ⊥) → times i (r .log) ≡ 1
+  pub noOther : (i : ℕ) → answerAt r i .code ≡ notYet → times i (r .log) ≡ 0
   -- "by moment, then operation"
-  pub sorted : (p q : ℕ) → p < q → q < length (log j) → Before (lineAt j p) (lineAt j q)
+  pub sorted : (p q : ℕ) → p < q → q < length (r .log) → Before (lineAt r p) (lineAt r q)
   -- "At the end a call with its charge is in it exactly when the file after the last turn .. holds them, in whatever order"
-  pub held : (r : Rec) → Has r (fed j (length (log j)) .list) ↔ Has r (contents (run j .file))
-  -- "a charge file in the result is that file"
-  pub charged : (f : File) → result j .file ≡ some f → f ≡ run j .file
+  pub held : (c : Rec) → Has c (fed j r (length (r .log)) .list) ↔ Has c (contents (run j .file))
+  -- "a charge file in the result is that file": its bytes are accepted as a job by themselves, and as a job they are that file
+  pub charged : (f : List ℕ) → r .file ≡ some f → Accepted f × (jobOf f ≡ fileJob (run j .file))
   -- "no call twice": in the list and in the file, at any time
-  pub listOnce : (n : ℕ) → NoneTwice (fed j n .list)
+  pub listOnce : (n : ℕ) → NoneTwice (fed j r n .list)
   pub fileOnce : (t : ℕ) → t ≤ length (j .turns) → NoneTwice (contents (stateAt j t .file))
   -- real-time order is kept: of two operations in the log, one that ended before the other's first turn stands first
   pub order
       : (p q t u : ℕ)
-      → p < length (log j)
-      → q < length (log j)
-      → Ended j (lineAt j p .op) t
-      → FirstTurn j (lineAt j q .op) u
+      → p < length (r .log)
+      → q < length (r .log)
+      → Ended j (lineAt r p .op) t
+      → FirstTurn j (lineAt r q .op) u
       → t < u
       → p < q
   -- no search waits: at no time would a search's next turn wait
@@ -114,12 +120,9 @@ pub record Explained (j : Job) : Type 0 where
       → (stageOf (stateAt j t) i ≡ Done → ⊥)
       → (k : ℕ) × (k < length (j .ops)) × (stageOf (stateAt j t) k ≡ Done → ⊥) × (Waits (stateAt j t) k → ⊥)
   -- a finished operation has an answer
-  pub finished : (i : ℕ) → i < length (j .ops) → stageOf (run j) i ≡ Done → answerOf j i .code ≡ notYet → ⊥
+  pub finished : (i : ℕ) → i < length (j .ops) → stageOf (run j) i ≡ Done → answerAt r i .code ≡ notYet → ⊥
 
--- the bytes meet none of rows 1 to 10 (row 11 is about what is lent)
-abbrev pub Accepted : List ℕ → Type 0
-Accepted b = jobFault b ≡ none
-
--- DEMAND 3: every accepted job, given as its bytes, whatever its turns and wherever they stop
+-- DEMAND 3: every accepted job, given as its bytes, whatever its turns and wherever they stop; and what is read from the bytes of its result,
+-- whatever stands behind them
 abbrev pub Demand3 : Type 0
-Demand3 = (b : List ℕ) → Accepted b → Explained (jobOf b)
+Demand3 = (b post : List ℕ) → AreBytes b → Accepted b → Explained (jobOf b) (readResult (resultBytes b ++ post))

@@ -7,12 +7,12 @@ use Rattle.spec.specs.declared.Op.{Op}
 use Rattle.spec.specs.Basics.{each}
 use Rattle.spec.specs.Bytes.{two, four}
 use Rattle.spec.specs.File.{Page, File}
-use Rattle.spec.specs.Job.{Job, Header, kindNumber, version, recordSize, directoryOffset, tableOffset, opsOffset, turnsOffset, total}
+use Rattle.spec.specs.Job.{Job, fileJob, Header, kindNumber, jobVersion, recordSize, directoryOffset, tableOffset, opsOffset, turnsOffset, total}
 
 -- "version (2 bytes, 1); g (1); c (1); page count P (2); .. offsets of directory, page table, operations and turns, and the total length"
 unfoldable pub headerBytes : Header → List ℕ
 headerBytes h =
-    two version
+    two jobVersion
     ++ (h .g ∷ h .c ∷ [])
     ++ two (h .limit)
     ++ two (h .used)
@@ -55,4 +55,4 @@ encodeJob j =
 
 -- "A charge file is a job with no operations and no turns"
 unfoldable pub encodeFile : File → List ℕ
-encodeFile f = encodeJob (record { file = f; ops = []; turns = [] })
+encodeFile f = encodeJob (fileJob f)

@@ -1,6 +1,6 @@
 -- "The job, byte by byte": limits, header, where each section stands, and what a job is.
 use Prim.Native.Nat.{ℕ, _+_, _-_, _*_, _^_}
-use mathlib.Core.List.{List}
+use mathlib.Core.List.{List, []}
 use lib.Dec.{eqb}
 use Rattle.spec.specs.declared.Kind.{Kind}
 use Rattle.spec.specs.declared.Kind.the-variants.{Search, Insert, Delete}
@@ -9,17 +9,32 @@ use Rattle.spec.specs.Basics.{if}
 use Rattle.spec.specs.File.{File}
 
 -- "The limits belong to the job kind itself: depth 0 to 8, capacity 1 to 8, pages 1 to 256, operations 0 to 256, turns 0 to 16,384"
+abbrev pub minDepth : ℕ
+minDepth = 0
+
 abbrev pub maxDepth : ℕ
 maxDepth = 8
+
+abbrev pub minCapacity : ℕ
+minCapacity = 1
 
 abbrev pub maxCapacity : ℕ
 maxCapacity = 8
 
+abbrev pub minPages : ℕ
+minPages = 1
+
 abbrev pub maxPages : ℕ
 maxPages = 256
 
+abbrev pub minOps : ℕ
+minOps = 0
+
 abbrev pub maxOps : ℕ
 maxOps = 256
+
+abbrev pub minTurns : ℕ
+minTurns = 0
 
 abbrev pub maxTurns : ℕ
 maxTurns = 16384
@@ -29,6 +44,10 @@ pub record Job : Type 0 where
   pub file : File
   pub ops : List Op
   pub turns : List ℕ
+
+-- "A charge file is a job with no operations and no turns"
+abbrev pub fileJob : File → Job
+fileJob f = record { file = f; ops = []; turns = [] }
 
 -- what stands where there is no operation
 abbrev pub noOp : Op
@@ -56,8 +75,9 @@ pub record Header : Type 0 where
 abbrev pub headerSize : ℕ
 headerSize = 32
 
-abbrev pub version : ℕ
-version = 1
+-- of jobs and of charge files; a result has a version of its own (Result.antt)
+abbrev pub jobVersion : ℕ
+jobVersion = 1
 
 abbrev pub versionAt : ℕ
 versionAt = 0

@@ -10,11 +10,12 @@ use Rattle.spec.specs.Key.{pseudoKey}
 use Rattle.spec.specs.File.{contents}
 use Rattle.spec.specs.Decode.{jobOf}
 use Rattle.spec.specs.Run.{run}
+use Rattle.spec.specs.Result.{Result, readResult}
 use Rattle.spec.specs.PlainList.{Reply, Replay}
 use Rattle.spec.specs.Check.{Lent}
-use Rattle.spec.specs.Outcome.{outcome, bufferAfter}
+use Rattle.spec.specs.Outcome.{resultBytes, outcome, bufferAfter}
 use Rattle.spec.specs.Report.{printed}
-use Rattle.spec.specs.Claims.{log, fed}
+use Rattle.spec.specs.Claims.{fed}
 use Rattle.spec.specs.Worked.{jobB, resultB, textB, jobLong, jobC, resultC, jobInsert, resultD, jobG, resultG, jobH, resultH, jobI, resultI, jobJ, resultJ}
 use Rattle.spec.specs.Opened.{opened}
 
@@ -38,12 +39,14 @@ data Said : Type 0 where
   bytes : List ℕ → Said
   holds : Replay → List Rec → Said
 
--- (`list`: the plain list fed the whole log, and what the file holds at the end)
+-- (`list`: the plain list fed the whole log, as it is read from the result's bytes, and what the file holds at the end)
 abbrev says : Asked → Said
 says (key call) = number (pseudoKey call)
 says (job b) = ends (outcome lent b) (bufferAfter lent b buffer)
 says (print b) = bytes (printed b)
-says (list b) = holds (fed (jobOf b) (length (log (jobOf b)))) (contents (run (jobOf b) .file))
+says (list b) =
+    let r : Result = readResult (resultBytes b) in
+    holds (fed (jobOf b) r (length (r .log))) (contents (run (jobOf b) .file))
 
 record Item : Type 0 where
   asked : Asked
@@ -92,7 +95,7 @@ marked =
     ∷ []
 
 table : map (λ (m : Item). says (m .asked)) marked ≡ map (λ (m : Item). m .paper) marked
-unfolding opened log fed
+unfolding opened fed
 table = refl
 
 -- a list of some thousand turns computes too

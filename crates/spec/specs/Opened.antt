@@ -9,12 +9,12 @@ use Rattle.spec.specs.Decode.{headerOf, entryParts, pageParts, opParts, 
 use Rattle.spec.specs.Split.{hasBit, withBit, digit, half, added, joined, grow, sharesIndex, allShare, leastShared, splitCount, newOwner, changes, nextEntry}
 use Rattle.spec.specs.Turn.{homeOf, entryOf, planOf, newCount, goesTo, begin, changedAt, foundMoment, looked, reread, placed, decided, chargeIn, cleared, written, verified, oldWritten, heldTurn, entriesFrom, splitTurn, turn}
 use Rattle.spec.specs.Run.{fill, tableAfter, directoryAfter, changesAfter, codeAfter, chargeAfter, momentAfter, rowOf, stageOf, idle, step, start, steps, run}
-use Rattle.spec.specs.Result.{toldOf, isAt, linesAt, linesFrom, logOf, underWay, countUnder, resultOf, result, answerBytes, lineBytes, logOffset, fileOffset, offsetField, fileBytes, resultHeader, encodeResult}
+use Rattle.spec.specs.Result.{toldOf, isAt, linesAt, linesFrom, logOf, underWay, countUnder, logOffset, fileOffset, offsetField, fileBytes, fileLeft, resultOf, result, answerBytes, lineBytes, resultHeader, encodeResult, answerOf, lineOf, answersIn, logIn, filePart, fileIn, readResult}
 use Rattle.spec.specs.PlainList.{turnedDown, hint, plainStep, askLine, replyOf, replay}
 use Rattle.spec.specs.Check.{outside, short, wrongVersion, overLimit, wrongOffset, entryFault, wrongEntry, badPage, pageFault, wrongPage, owns, ownsToo, badOwner, ownerFault, wrongOwner, badRecord, recordFault, recordFaultIn, wrongRecord, badOp, opFault, wrongOp, turnFault, wrongTurn, resultSize, smallOutput, numbered, firstRow, jobFault, firstFault}
 use Rattle.spec.specs.Outcome.{resultBytes, outcomeBy, outcome, afterRun, bufferAfter, rowsAfter, workAfter}
 use Rattle.spec.specs.Report.{digits, decimal, kindWord, codeWord, jobLine, opLine, opLines, atLine, recordWord, pageLine, pageLines, pagesPart, report, refusedLine, printedBy, printed}
 
 unfoldable pub opened : Unit {0}
-unfolding if each when orElse isSome among firstOf anyOf allOf filter byte word long two four parts zeros text reversed pseudoKey firstBits index bit shared begins pageAt entryAt pagesInUse findIn isNot without hasIndex ofIndex heldFrom contents kindNumber kindOf tableOffset opsOffset turnsOffset total entryPlace pagePlace recordPlace opPlace turnPlace fileLength headerBytes recordBytes pageBytes opBytes headerFor encodeJob encodeFile headerOf entryParts pageParts opParts turnParts numberOf recordOf pageOf opOf fileOf jobOf hasBit withBit digit half added joined grow sharesIndex allShare leastShared splitCount newOwner changes nextEntry homeOf entryOf planOf newCount goesTo begin changedAt foundMoment looked reread placed decided chargeIn cleared written verified oldWritten heldTurn entriesFrom splitTurn turn fill tableAfter directoryAfter changesAfter codeAfter chargeAfter momentAfter rowOf stageOf idle step start steps run toldOf isAt linesAt linesFrom logOf underWay countUnder resultOf result answerBytes lineBytes logOffset fileOffset offsetField fileBytes resultHeader encodeResult turnedDown hint plainStep askLine replyOf replay outside short wrongVersion overLimit wrongOffset entryFault wrongEntry badPage pageFault wrongPage owns ownsToo badOwner ownerFault wrongOwner badRecord recordFault recordFaultIn wrongRecord badOp opFault wrongOp turnFault wrongTurn resultSize smallOutput numbered firstRow jobFault firstFault resultBytes outcomeBy outcome afterRun bufferAfter rowsAfter workAfter digits decimal kindWord codeWord jobLine opLine opLines atLine recordWord pageLine pageLines pagesPart report refusedLine printedBy printed
+unfolding if each when orElse isSome among firstOf anyOf allOf filter byte word long two four parts zeros text reversed pseudoKey firstBits index bit shared begins pageAt entryAt pagesInUse findIn isNot without hasIndex ofIndex heldFrom contents kindNumber kindOf tableOffset opsOffset turnsOffset total entryPlace pagePlace recordPlace opPlace turnPlace fileLength headerBytes recordBytes pageBytes opBytes headerFor encodeJob encodeFile headerOf entryParts pageParts opParts turnParts numberOf recordOf pageOf opOf fileOf jobOf hasBit withBit digit half added joined grow sharesIndex allShare leastShared splitCount newOwner changes nextEntry homeOf entryOf planOf newCount goesTo begin changedAt foundMoment looked reread placed decided chargeIn cleared written verified oldWritten heldTurn entriesFrom splitTurn turn fill tableAfter directoryAfter changesAfter codeAfter chargeAfter momentAfter rowOf stageOf idle step start steps run toldOf isAt linesAt linesFrom logOf underWay countUnder logOffset fileOffset offsetField fileBytes fileLeft resultOf result answerBytes lineBytes resultHeader encodeResult answerOf lineOf answersIn logIn filePart fileIn readResult turnedDown hint plainStep askLine replyOf replay outside short wrongVersion overLimit wrongOffset entryFault wrongEntry badPage pageFault wrongPage owns ownsToo badOwner ownerFault wrongOwner badRecord recordFault recordFaultIn wrongRecord badOp opFault wrongOp turnFault wrongTurn resultSize smallOutput numbered firstRow jobFault firstFault resultBytes outcomeBy outcome afterRun bufferAfter rowsAfter workAfter digits decimal kindWord codeWord jobLine opLine opLines atLine recordWord pageLine pageLines pagesPart report refusedLine printedBy printed
 opened = tt

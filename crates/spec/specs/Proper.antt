@@ -9,7 +9,7 @@ use Rattle.spec.specs.declared.Rec.{Rec}
 use Rattle.spec.specs.Basics.{Each}
 use Rattle.spec.specs.Key.{index, begins}
 use Rattle.spec.specs.File.{Page, File, zeroPage, pageAt, entryAt, findIn}
-use Rattle.spec.specs.Job.{maxDepth, maxCapacity, maxPages}
+use Rattle.spec.specs.Job.{maxDepth, minCapacity, maxCapacity, maxPages}
 
 -- no call is in a list twice: of each record, the rest has no record with its call
 pub data NoneTwice : List Rec → Type 0 where
@@ -27,7 +27,7 @@ PageNo f x = (0 < x) × (x ≤ f .used)
 -- rows 3 and 5: the limits, and each entry the number of a page in use
 pub record Fit (f : File) : Type 0 where
   pub depth : f .g ≤ maxDepth
-  pub capacity : (1 ≤ f .c) × (f .c ≤ maxCapacity)
+  pub capacity : (minCapacity ≤ f .c) × (f .c ≤ maxCapacity)
   pub most : f .limit ≤ maxPages
   pub least : 1 ≤ f .used
   pub within : f .used ≤ f .limit

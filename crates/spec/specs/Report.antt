@@ -10,9 +10,9 @@ use Rattle.spec.specs.declared.Kind.{Kind}
 use Rattle.spec.specs.declared.Kind.the-variants.{Search, Insert, Delete}
 use Rattle.spec.specs.Basics.{if, each}
 use Rattle.spec.specs.Bytes.{text}
-use Rattle.spec.specs.File.{Page, File, pagesInUse}
+use Rattle.spec.specs.File.{Page, pagesInUse}
 use Rattle.spec.specs.Job.{Job, noOp}
-use Rattle.spec.specs.Decode.{jobOf}
+use Rattle.spec.specs.Decode.{fileOf, jobOf}
 use Rattle.spec.specs.Result.{Told, Line, Result, result}
 use Rattle.spec.specs.Check.{Fault, jobFault}
 
@@ -97,9 +97,9 @@ pageLines x [] = []
 pageLines x (p ∷ ps) = pageLine x p ++ pageLines (suc x) ps
 
 -- "a `page` line, only with a charge file and for pages in use"
-unfoldable pub pagesPart : Option File → List ℕ
+unfoldable pub pagesPart : Option (List ℕ) → List ℕ
 pagesPart none = []
-pagesPart (some f) = pageLines 1 (pagesInUse f)
+pagesPart (some f) = pageLines 1 (pagesInUse (fileOf f))
 
 unfoldable pub report : Job → Result → List ℕ
 report j r = jobLine j ++ opLines 0 (j .ops) (r .answers) ++ each atLine (r .log) ++ pagesPart (r .file)

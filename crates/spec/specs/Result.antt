@@ -1,17 +1,16 @@
--- "The result": answers, log, the charge file or none, and the result's bytes.
-use Prim.Native.Nat.{ℕ, zero, suc, _+_, _*_}
+-- "The result": answers, log, the charge file or none; the result's bytes, and what any bytes say, read as a result.
+use Prim.Native.Nat.{ℕ, zero, suc, _+_, _-_, _*_}
 use mathlib.Core.List.{List, [], _∷_, _++_, map}
 use mathlib.Core.Bool.{Bool, true, false, not, _&&_}
 use mathlib.Core.Option.{Option, none, some}
-use lib.ListN.{length}
+use lib.ListN.{length, take, drop}
 use lib.Dec.{eqb}
 use Rattle.spec.specs.declared.Stage.{Stage}
 use Rattle.spec.specs.declared.Stage.the-variants.{NotBegun, ReadPage, Reread, Lock, Held, Split, Done}
 use Rattle.spec.specs.Basics.{if, each}
-use Rattle.spec.specs.Bytes.{two, four}
+use Rattle.spec.specs.Bytes.{byte, word, long, two, four, parts}
 use Rattle.spec.specs.Code.{notYet}
-use Rattle.spec.specs.File.{File}
-use Rattle.spec.specs.Job.{Job, version}
+use Rattle.spec.specs.Job.{Job}
 use Rattle.spec.specs.Encode.{encodeFile}
 use Rattle.spec.specs.State.{Row, State}
 use Rattle.spec.specs.Run.{run}
@@ -63,71 +62,142 @@ unfoldable pub countUnder : List Row → ℕ
 countUnder [] = 0
 countUnder (r ∷ rs) = if (underWay (r .stage)) (suc (countUnder rs)) (countUnder rs)
 
--- What a result says. "If any operation is begun but unfinished, there is no charge file"
+-- "version 1": the result's own, whatever the job's is
+abbrev pub resultVersion : ℕ
+resultVersion = 1
+
+-- "Header, 24 bytes: version 1, m, log length L, operations begun but unfinished (2 bytes each); offsets of answers, log and charge file, .., and
+-- the total (4 each)": where each field stands
+abbrev pub resultVersionAt : ℕ
+resultVersionAt = 0
+
+abbrev pub answerCountAt : ℕ
+answerCountAt = 2
+
+abbrev pub lineCountAt : ℕ
+lineCountAt = 4
+
+abbrev pub unendedAt : ℕ
+unendedAt = 6
+
+abbrev pub answersAt : ℕ
+answersAt = 8
+
+abbrev pub logAt : ℕ
+logAt = 12
+
+abbrev pub fileAt : ℕ
+fileAt = 16
+
+abbrev pub resultTotalAt : ℕ
+resultTotalAt = 20
+
+-- "Answer, 8 bytes"; "Log, 4 bytes a line"
+abbrev pub answerSize : ℕ
+answerSize = 8
+
+abbrev pub lineSize : ℕ
+lineSize = 4
+
+-- "answers, log and charge file, which follow in that order with no gap": where each begins, with m answers and a log of so many lines
+abbrev pub answersOffset : ℕ
+answersOffset = 24
+
+unfoldable pub logOffset : ℕ → ℕ
+logOffset m = answersOffset + answerSize * m
+
+unfoldable pub fileOffset : ℕ → ℕ → ℕ
+fileOffset m lines = logOffset m + lineSize * lines
+
+-- "there is no charge file and its offset is 0": the charge file's offset and bytes in the result
+unfoldable pub offsetField : Option (List ℕ) → ℕ → ℕ
+offsetField none at = 0
+offsetField (some f) at = at
+
+unfoldable pub fileBytes : Option (List ℕ) → List ℕ
+fileBytes none = []
+fileBytes (some f) = f
+
+-- What a result says: of its header the version, the operations begun but unfinished and the total; answers; log; the bytes of the charge file,
+-- or none. (m and L are the lengths of answers and log.)
 pub record Result : Type 0 where
+  pub version : ℕ
+  pub unended : ℕ
+  pub total : ℕ
   pub answers : List Told
   pub log : List Line
-  pub unended : ℕ
-  pub file : Option File
+  pub file : Option (List ℕ)
+
+-- "If any operation is begun but unfinished, there is no charge file"
+unfoldable pub fileLeft : State → Option (List ℕ)
+fileLeft s = if (eqb (countUnder (s .rows)) 0) (some (encodeFile (s .file))) none
 
 unfoldable pub resultOf : State → Result
 resultOf s =
     record {
+      version = resultVersion;
+      unended = countUnder (s .rows);
+      total = fileOffset (length (s .rows)) (length (logOf s)) + length (fileBytes (fileLeft s));
       answers = map toldOf (s .rows);
       log = logOf s;
-      unended = countUnder (s .rows);
-      file = if (eqb (countUnder (s .rows)) 0) (some (s .file)) none;
+      file = fileLeft s;
     }
 
 unfoldable pub result : Job → Result
 result j = resultOf (run j)
 
 -- "Answer, 8 bytes: code, zero byte, turns used without waiting (2), charge (4)"
-abbrev pub answerSize : ℕ
-answerSize = 8
-
 unfoldable pub answerBytes : Told → List ℕ
 answerBytes a = (a .code ∷ 0 ∷ []) ++ two (a .used) ++ four (a .charge)
 
 -- "Log, 4 bytes a line: moment (a turn number from 0) and operation"
-abbrev pub lineSize : ℕ
-lineSize = 4
-
 unfoldable pub lineBytes : Line → List ℕ
 lineBytes l = two (l .moment) ++ two (l .op)
 
--- "Header, 24 bytes"; "offsets of answers, log and charge file, which follow in that order with no gap, and the total"
-abbrev pub answersOffset : ℕ
-answersOffset = 24
-
-unfoldable pub logOffset : Result → ℕ
-logOffset r = answersOffset + answerSize * length (r .answers)
-
-unfoldable pub fileOffset : Result → ℕ
-fileOffset r = logOffset r + lineSize * length (r .log)
-
--- "there is no charge file and its offset is 0": the charge file's offset and bytes in the result
-unfoldable pub offsetField : Option File → ℕ → ℕ
-offsetField none at = 0
-offsetField (some f) at = at
-
-unfoldable pub fileBytes : Option File → List ℕ
-fileBytes none = []
-fileBytes (some f) = encodeFile f
-
 -- "Header, 24 bytes: version 1, m, log length L, operations begun but unfinished (2 bytes each); offsets .., and the total (4 each)"
-unfoldable pub resultHeader : Result → ℕ → List ℕ
-resultHeader r fileLength =
-    two version
+unfoldable pub resultHeader : Result → List ℕ
+resultHeader r =
+    two (r .version)
     ++ two (length (r .answers))
     ++ two (length (r .log))
     ++ two (r .unended)
     ++ four answersOffset
-    ++ four (logOffset r)
-    ++ four (offsetField (r .file) (fileOffset r))
-    ++ four (fileOffset r + fileLength)
+    ++ four (logOffset (length (r .answers)))
+    ++ four (offsetField (r .file) (fileOffset (length (r .answers)) (length (r .log))))
+    ++ four (r .total)
 
 unfoldable pub encodeResult : Result → List ℕ
-encodeResult r =
-    let f = fileBytes (r .file) in
-    resultHeader r (length f) ++ each answerBytes (r .answers) ++ each lineBytes (r .log) ++ f
+encodeResult r = resultHeader r ++ each answerBytes (r .answers) ++ each lineBytes (r .log) ++ fileBytes (r .file)
+
+-- An answer and a line, as their bytes say them.
+unfoldable pub answerOf : List ℕ → Told
+answerOf b = record { code = byte b 0; charge = long b 4; used = word b 2 }
+
+unfoldable pub lineOf : List ℕ → Line
+lineOf b = record { moment = word b 0; op = word b 2 }
+
+-- the sections of a result, where its header says that they begin
+unfoldable pub answersIn : List ℕ → List Told
+answersIn b = map answerOf (parts (word b answerCountAt) answerSize (drop (long b answersAt) b))
+
+unfoldable pub logIn : List ℕ → List Line
+logIn b = map lineOf (parts (word b lineCountAt) lineSize (drop (long b logAt) b))
+
+-- the charge file stands from its offset to the total; "there is no charge file and its offset is 0"
+unfoldable pub filePart : List ℕ → List ℕ
+filePart b = take (long b resultTotalAt - long b fileAt) (drop (long b fileAt) b)
+
+unfoldable pub fileIn : List ℕ → Option (List ℕ)
+fileIn b = if (eqb (long b fileAt) 0) none (some (filePart b))
+
+-- What any bytes say, read as a result. Total, as the reading of a job is; what stands behind the total is not read.
+unfoldable pub readResult : List ℕ → Result
+readResult b =
+    record {
+      version = word b resultVersionAt;
+      unended = word b unendedAt;
+      total = long b resultTotalAt;
+      answers = answersIn b;
+      log = logIn b;
+      file = fileIn b;
+    }

@@ -39,7 +39,7 @@ enum-told-2 : tie.Need-enum-told-2
 enum-told-2 c = omega arith
 
 returns-3 : tie.Need-returns-3
-returns-3 c = row-next 9 wrongOp _ _ _ (none1 (c .before .before .before)) (row-next 10 wrongTurn _ _ _ (none2 c) (rows-end _ _))
+returns-3 c = row-next 9 wrongOp _ _ _ (none1 (c .before .before .before)) (row-next 10 wrongTurn _ _ _ (none2 c) (rows-end _))
 
 pub from-op-spec : {M : Type 1} → statement M
 from-op-spec =

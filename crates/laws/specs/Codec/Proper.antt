@@ -9,12 +9,12 @@ use Rattle.spec.specs.declared.Kind.the-variants.{Insert}
 use Rattle.spec.specs.declared.Op.{Op}
 use Rattle.spec.specs.Basics.{Each, end}
 use Rattle.spec.specs.File.{Page, File, zeroPage, pageAt}
-use Rattle.spec.specs.Job.{Job, maxOps, maxTurns}
+use Rattle.spec.specs.Job.{Job, fileJob, maxOps, maxTurns}
 use Rattle.spec.specs.Proper.{PageNo, PageOk, FileOk}
 use Rattle.laws.specs.Tools.{each-imp}
 use Rattle.laws.specs.Codec.Tools.{each-places}
 use Rattle.laws.specs.Codec.InUse.{page-behind, any-page}
-use Rattle.laws.specs.Codec.Sections.{Sized, jobFor}
+use Rattle.laws.specs.Codec.Sections.{Sized}
 use Rattle.laws.specs.Codec.Back.{RecFits, PageFits, OpFits, FileFits, JobFits}
 use Rattle.laws.specs.Turns.Pages.{empty-ok}
 
@@ -86,5 +86,5 @@ job-fits j P =
     }
 
 -- a charge file, as a job
-pub file-proper : (f : File) → FileOk f → RecordsFit f → JobProper (jobFor f)
+pub file-proper : (f : File) → FileOk f → RecordsFit f → JobProper (fileJob f)
 file-proper f ok fits = record { file = ok; records = fits; opCount = omega arith; ops = end; turnCount = omega arith; turns = end }

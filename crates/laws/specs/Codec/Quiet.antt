@@ -7,16 +7,15 @@ use native.Mathlib.Omega.{arith}
 use lib.ListN.{length, take, drop, replicate, drop-of-length-le}
 use Rattle.spec.specs.Basics.{if, each}
 use Rattle.spec.specs.Bytes.{AreBytes}
-use Rattle.spec.specs.Job.{Job, headerSize, pageSize, tableOffset, opsOffset}
+use Rattle.spec.specs.Job.{Job, fileJob, headerSize, pageSize, tableOffset, opsOffset}
 use Rattle.spec.specs.Encode.{headerBytes, headerFor, encodeJob, encodeFile}
 use Rattle.spec.specs.Decode.{headerOf, fileOf, jobOf}
 use Rattle.spec.specs.State.{blank}
 use Rattle.spec.specs.Run.{start, steps, run}
-use Rattle.spec.specs.Result.{underWay, countUnder, resultOf, result, fileBytes}
+use Rattle.spec.specs.Result.{underWay, countUnder, fileBytes, fileLeft, resultOf, result}
 use Rattle.spec.specs.Check.{jobFault}
 use Rattle.laws.specs.Codec.Pieces.{behind}
 use Rattle.laws.specs.Codec.Rows.{Rows, accepted-rows, counted}
-use Rattle.laws.specs.Codec.Sections.{jobFor}
 use Rattle.laws.specs.Codec.Forth.{directory-forth, table-forth, encode-decode}
 
 -- an operation not begun is not under way
@@ -30,15 +29,15 @@ unmoved : (j : Job) → j .turns ≡ [] → run j ≡ start (j .file) (length (j
 unfolding run steps
 unmoved j e = rw e
 
-unmoved-file : (j : Job) → j .turns ≡ [] → result j .file ≡ some (j .file)
-unfolding result resultOf start if
+unmoved-file : (j : Job) → j .turns ≡ [] → result j .file ≡ some (encodeFile (j .file))
+unfolding result resultOf fileLeft start if
 unmoved-file j e = rw (unmoved j e, none-under (length (j .ops)))
 
 no-member : {A : Type 0} (l : List A) → length l ≡ 0 → l ≡ []
 no-member l e = drop-of-length-le l {i = 0} (omega arith)
 
 -- THE RESULT'S FILE IS THE ONE THAT CAME IN
-pub no-turns : (b : List ℕ) → headerOf b .turns ≡ 0 → result (jobOf b) .file ≡ some (jobOf b .file)
+pub no-turns : (b : List ℕ) → headerOf b .turns ≡ 0 → result (jobOf b) .file ≡ some (encodeFile (jobOf b .file))
 no-turns b e = unmoved-file (jobOf b) (no-member (jobOf b .turns) (counted b .turns ∙ e))
 
 -- what is written of the file of an accepted job
@@ -70,5 +69,5 @@ module _ (b : List ℕ) (bytes : AreBytes b) (accepted : jobFault b ≡ none) wh
   unfolding encodeFile jobOf
   charge-file-kept m t = ap encodeJob same ∙ encode-decode b bytes accepted
     where
-      same : jobFor (fileOf b) ≡ jobOf b
+      same : fileJob (fileOf b) ≡ jobOf b
       same = rw (no-member (jobOf b .ops) (counted b .ops ∙ m), no-member (jobOf b .turns) (counted b .turns ∙ t))

@@ -7,7 +7,7 @@ use mathlib.Core.Option.{none}
 use native.Mathlib.Omega.{arith}
 use lib.ListN.{length, length-map}
 use Rattle.spec.specs.Bytes.{word, long}
-use Rattle.spec.specs.Job.{Header, maxDepth, maxCapacity, maxPages, maxOps, maxTurns, headerSize, version, versionAt, directoryOffsetAt, tableOffsetAt, opsOffsetAt, turnsOffsetAt, totalAt, directoryOffset, tableOffset, opsOffset, turnsOffset, total}
+use Rattle.spec.specs.Job.{Header, maxDepth, minCapacity, maxCapacity, minPages, maxPages, maxOps, maxTurns, headerSize, jobVersion, versionAt, directoryOffsetAt, tableOffsetAt, opsOffsetAt, turnsOffsetAt, totalAt, directoryOffset, tableOffset, opsOffset, turnsOffset, total}
 use Rattle.spec.specs.Decode.{headerOf, fileOf, entryParts, pageParts, opParts, turnParts, jobOf}
 use Rattle.spec.specs.Check.{short, wrongVersion, overLimit, wrongOffset, wrongEntry, wrongPage, wrongOwner, wrongRecord, wrongOp, wrongTurn, jobFault}
 use Rattle.laws.specs.Codec.Tools.{failed, among-none, among-end, row-none, row-end}
@@ -30,11 +30,11 @@ pub accepted-rows : (b : List ℕ) → jobFault b ≡ none ↔ Rows b
 unfolding jobFault
 accepted-rows b = simp (row-none, row-end) (λ e. search, λ r. search)
 
--- row 3: the limits
+-- row 3: the limits (a lower limit of 0 says nothing)
 pub record Limits (h : Header) : Type 0 where
   pub depth : h .g ≤ maxDepth
-  pub capacity : (1 ≤ h .c) × (h .c ≤ maxCapacity)
-  pub pages : (1 ≤ h .limit) × (h .limit ≤ maxPages)
+  pub capacity : (minCapacity ≤ h .c) × (h .c ≤ maxCapacity)
+  pub pages : (minPages ≤ h .limit) × (h .limit ≤ maxPages)
   pub used : (1 ≤ h .used) × (h .used ≤ h .limit)
   pub ops : h .ops ≤ maxOps
   pub turns : h .turns ≤ maxTurns
@@ -46,7 +46,7 @@ limits-said b = simp (failed, among-none, among-end) (omega arith)
 -- rows 1, 2 and 4: the header's other fields, and the length
 pub record Laid (b : List ℕ) : Type 0 where
   pub header : headerSize ≤ length b
-  pub first : word b versionAt ≡ version
+  pub first : word b versionAt ≡ jobVersion
   pub directory : long b directoryOffsetAt ≡ directoryOffset
   pub table : long b tableOffsetAt ≡ tableOffset (headerOf b)
   pub ops : long b opsOffsetAt ≡ opsOffset (headerOf b)

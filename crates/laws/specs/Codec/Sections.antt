@@ -60,10 +60,6 @@ pub record Sized (f : File) : Type 0 where
   pub table : length (drop 1 (f .table)) ≡ f .limit
   pub room : Each (λ p. length (p .records) ≤ f .c) (drop 1 (f .table))
 
--- a charge file is a job with no operations and no turns
-abbrev pub jobFor : File → Job
-jobFor f = record { file = f; ops = []; turns = [] }
-
 -- the header that is written of a job
 abbrev pub headOf : Job → Header
 headOf j = headerFor (j .file) (length (j .ops)) (length (j .turns))

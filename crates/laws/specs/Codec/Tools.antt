@@ -11,7 +11,7 @@ use lib.ListN.{length, getD}
 use lib.Dec.{ltb, leb, eqb}
 use borrow.Author.Tests.{ltb-true, ltb-false, leb-false, eqb-true, eqb-false, not-true, not-false, lt-ltb, le-ltb, lt-leb, eq-eqb, ne-eqb}
 use Rattle.spec.specs.Basics.{when, orElse, among, Each, end, next}
-use Rattle.spec.specs.Check.{outside, numbered, firstRow}
+use Rattle.spec.specs.Check.{outside, numbered, Refusal, firstRow}
 use Rattle.laws.specs.Tools.{first, rest, each-at}
 
 -- tests
@@ -78,15 +78,13 @@ unfolding numbered
 numbered-none n none = (λ e. refl, λ e. refl)
 numbered-none n (some p) = (λ e. absurd (Option·none-ne-some _ (sym e)), λ e. absurd (Option·none-ne-some _ (sym e)))
 
-pub row-none
-    : (n : ℕ) (r : List ℕ → Option ℕ) (rs : List (List ℕ → Option ℕ)) (b : List ℕ)
-    → firstRow n (r ∷ rs) b ≡ none ↔ (r b ≡ none) × (firstRow (suc n) rs b ≡ none)
+pub row-none : (r : Refusal) (rs : List Refusal) (b : List ℕ) → firstRow (r ∷ rs) b ≡ none ↔ (r .test b ≡ none) × (firstRow rs b ≡ none)
 unfolding firstRow
-row-none n r rs b = simp (orElse-none, numbered-none) Iff·rfl
+row-none r rs b = simp (orElse-none, numbered-none) Iff·rfl
 
-pub row-end : (n : ℕ) (b : List ℕ) → firstRow n [] b ≡ none ↔ Unit {0}
+pub row-end : (b : List ℕ) → firstRow [] b ≡ none ↔ Unit {0}
 unfolding firstRow
-row-end n b = (λ e. tt, λ u. refl)
+row-end b = (λ e. tt, λ u. refl)
 
 -- what it says that a test does not hold
 pub ruleset failed = (or-no, and-no, not-no, not-yes, ltb-no, ltb-yes, leb-no, eqb-no, eqb-yes, outside-no, when-none)

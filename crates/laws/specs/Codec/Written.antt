@@ -13,7 +13,7 @@ use Rattle.spec.specs.declared.Op.{Op}
 use Rattle.spec.specs.Basics.{each}
 use Rattle.spec.specs.Bytes.{byte, word, long, two, four, zeros}
 use Rattle.spec.specs.File.{Page, File, zeroPage, entryAt}
-use Rattle.spec.specs.Job.{Job, Header, kindNumber, tableOffset, opsOffset, turnsOffset, total}
+use Rattle.spec.specs.Job.{Job, fileJob, Header, kindNumber, tableOffset, opsOffset, turnsOffset, total}
 use Rattle.spec.specs.Encode.{headerBytes, recordBytes, pageBytes, opBytes, headerFor, encodeJob, encodeFile}
 use Rattle.spec.specs.Decode.{headerOf, jobOf}
 use Rattle.spec.specs.Check.{wrongEntry, wrongPage, wrongOwner, wrongRecord, wrongOp, wrongTurn, jobFault}
@@ -27,7 +27,7 @@ use Rattle.laws.specs.Codec.Owner.{entries-said, owners-said}
 use Rattle.laws.specs.Codec.Records.{records-said}
 use Rattle.laws.specs.Codec.Pages.{PageFine, pages-said}
 use Rattle.laws.specs.Codec.Ops.{OpFine, ops-said, turns-said}
-use Rattle.laws.specs.Codec.Sections.{length-records, jobFor, headOf, header-first, length-job, pages-written, ops-written, turns-written}
+use Rattle.laws.specs.Codec.Sections.{length-records, headOf, header-first, length-job, pages-written, ops-written, turns-written}
 use Rattle.laws.specs.Codec.Back.{JobFits, number-back, sized, head-back, file-back, decode-encode}
 use Rattle.laws.specs.Codec.Longest.{total-most}
 use Rattle.laws.specs.Codec.Proper.{RecordsFit, OpProper, JobProper, pages-proper, job-fits, file-proper}
@@ -173,8 +173,8 @@ module _ (j : Job) (P : JobProper j) where
 -- A CHARGE FILE IS ACCEPTED, AND COMES BACK
 pub file-accepted : (f : File) → FileOk f → RecordsFit f → jobFault (encodeFile f) ≡ none
 unfolding encodeFile
-file-accepted f ok fits = proper-accepted (jobFor f) (file-proper f ok fits)
+file-accepted f ok fits = proper-accepted (fileJob f) (file-proper f ok fits)
 
-pub file-comes-back : (f : File) → FileOk f → RecordsFit f → jobOf (encodeFile f) ≡ record { file = f; ops = []; turns = [] }
+pub file-comes-back : (f : File) → FileOk f → RecordsFit f → jobOf (encodeFile f) ≡ fileJob f
 unfolding encodeFile
-file-comes-back f ok fits = decode-encode (jobFor f) (job-fits (jobFor f) (file-proper f ok fits))
+file-comes-back f ok fits = decode-encode (fileJob f) (job-fits (fileJob f) (file-proper f ok fits))

@@ -15,7 +15,8 @@ use Rattle.spec.specs.File.{pageAt, entryAt}
 use Rattle.spec.specs.Job.{Job}
 use Rattle.spec.specs.State.{Row, State, gone}
 use Rattle.spec.specs.Run.{rowOf, stageOf, run}
-use Rattle.spec.specs.Result.{underWay, countUnder, resultOf, result}
+use Rattle.spec.specs.Encode.{encodeFile}
+use Rattle.spec.specs.Result.{underWay, countUnder, fileLeft, resultOf, result}
 use Rattle.spec.specs.Proper.{FileOk}
 use Rattle.laws.specs.Tools.{if-case, if-true}
 use Rattle.laws.specs.Key.{index-onto}
@@ -81,6 +82,6 @@ final-ok j ok z = settled-ok (j .ops) (run j) (w .good) (w .tidy) (w .settled) (
     w = end-whole j ok
 
 -- and it is the charge file of the result
-pub final-file : (j : Job) → result j .unended ≡ 0 → result j .file ≡ some (run j .file)
-unfolding result resultOf
+pub final-file : (j : Job) → result j .unended ≡ 0 → result j .file ≡ some (encodeFile (run j .file))
+unfolding result resultOf fileLeft
 final-file j z = if-true _ _ (eq-eqb _ 0 z)

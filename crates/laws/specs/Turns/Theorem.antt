@@ -1,4 +1,4 @@
--- DEMAND 3: every turn list of a job whose file is proper is explained by its log, on the plain list.
+-- DEMAND 3: every turn list of a job whose file is proper is explained by the log of its result, on the plain list.
 use Prim.Native.Nat.{ℕ, suc, _<_, _≤_}
 use mathlib.Core.Path.{_≡_, refl, sym, ap, _∙_, subst}
 use mathlib.Core.Logic.{_⊎_, ⊎-elim, by-cases}
@@ -7,21 +7,22 @@ use mathlib.Core.Bool.{Bool, true, true≢false, false≢true}
 use mathlib.Core.Option.{Option, none, some, Option·none-ne-some}
 use native.Mathlib.Omega.{arith}
 use native.Mathlib.Decide.{ℕ-discrete, decLt}
-use lib.ListN.{length, getD}
+use lib.ListN.{length, getD, length-map}
 use lib.Seq.{take-length}
 use Rattle.spec.specs.declared.Op.{Op}
 use Rattle.spec.specs.declared.Kind.the-variants.{Search}
 use Rattle.spec.specs.declared.Stage.{Stage}
 use Rattle.spec.specs.declared.Stage.the-variants.{NotBegun, ReadPage, Reread, Lock, Held, Split, Done}
 use Rattle.spec.specs.File.{File, findIn, contents}
-use Rattle.spec.specs.Job.{Job, noOp}
+use Rattle.spec.specs.Job.{Job, fileJob, noOp}
+use Rattle.spec.specs.Decode.{jobOf}
 use Rattle.spec.specs.Code.{notYet, noDepth, noPage}
 use Rattle.spec.specs.State.{State}
 use Rattle.spec.specs.Run.{rowOf, stageOf, idle, run}
 use Rattle.spec.specs.Result.{Told, toldOf, logOf, resultOf, result}
 use Rattle.spec.specs.PlainList.{replyOf, Replay, replay}
 use Rattle.spec.specs.Proper.{NoneTwice, FileOk}
-use Rattle.spec.specs.Claims.{stateAt, FirstTurn, Ended, Waits, times, log, lineAt, opAt, answerOf, fed, Explained}
+use Rattle.spec.specs.Claims.{stateAt, FirstTurn, Ended, Waits, times, lineAt, answerAt, opAt, fed, Accepted, Explained}
 use Rattle.laws.specs.Tools.{if-case}
 use Rattle.laws.specs.Turns.Records.{same-has}
 use Rattle.laws.specs.Turns.Rows.{stage-row, moves-row, code-row}
@@ -62,27 +63,31 @@ module _ (j : Job) (ok : FileOk (j .file)) where
   w : Whole j (run j)
   w = end-whole j ok
 
-  code-at : (i : ℕ) → answerOf j i .code ≡ rowOf (run j) i .code
-  unfolding answerOf result toldOf
+  code-at : (i : ℕ) → answerAt (result j) i .code ≡ rowOf (run j) i .code
+  unfolding answerAt result toldOf
   code-at i = ap (λ (t : Told). t .code) (answer-at (run j) i)
 
-  log-at : log j ≡ logOf (run j)
-  unfolding log result resultOf
+  answer-count : length (result j .answers) ≡ length (j .ops)
+  unfolding result resultOf
+  answer-count = length-map (run j .rows) toldOf ∙ w .rows
+
+  log-at : result j .log ≡ logOf (run j)
+  unfolding result resultOf
   log-at = refl
 
-  fed-all : fed j (length (log j)) ≡ replay (j .ops) (result j .answers) (result j .log) (contents (j .file))
-  unfolding fed log
+  fed-all : fed j (result j) (length (result j .log)) ≡ replay (j .ops) (result j .answers) (result j .log) (contents (j .file))
+  unfolding fed
   fed-all = ap (λ hs. replay (j .ops) (result j .answers) hs (contents (j .file))) (take-length (result j .log))
 
-  all-answers : fed j (length (log j)) .replies ≡ map (λ h. replyOf (answerOf j (h .op))) (log j)
-  unfolding log answerOf
+  all-answers : fed j (result j) (length (result j .log)) .replies ≡ map (λ h. replyOf (answerAt (result j) (h .op))) (result j .log)
+  unfolding answerAt
   all-answers = ap (λ (r : Replay). r .replies) fed-all ∙ replayed j ok .0
 
-  list-once : (n : ℕ) → NoneTwice (fed j n .list)
+  list-once : (n : ℕ) → NoneTwice (fed j (result j) n .list)
   unfolding fed
   list-once n = replay-twice (j .ops) _ _ _ (contents-twice (j .file) (pages-of (j .file) ok))
 
-  same-find : (k : ℕ) → findIn (fed j (length (log j)) .list) k ≡ findIn (contents (run j .file)) k
+  same-find : (k : ℕ) → findIn (fed j (result j) (length (result j .log)) .list) k ≡ findIn (contents (run j .file)) k
   same-find k =
       ap (λ (r : Replay). findIn (r .list) k) fed-all ∙ replayed j ok .1 k ∙ sym (contents-lookup (run j .file) (w .good .fit) k)
 
@@ -97,29 +102,29 @@ module _ (j : Job) (ok : FileOk (j .file)) where
 
   in-order
       : (p q t u : ℕ)
-      → p < length (log j)
-      → q < length (log j)
-      → Ended j (lineAt j p .op) t
-      → FirstTurn j (lineAt j q .op) u
+      → p < length (result j .log)
+      → q < length (result j .log)
+      → Ended j (lineAt (result j) p .op) t
+      → FirstTurn j (lineAt (result j) q .op) u
       → t < u
       → p < q
-  unfolding log result resultOf
+  unfolding result resultOf
   in-order p q t u lp lq e f l =
       by-cases (decLt p q) (λ h. h)
       (λ h.
-      by-cases (ℕ-discrete q p) (λ (z : q ≡ p). absurd (let y : lineAt j q .moment ≡ lineAt j p .moment = rw z in omega (arith, both)))
+      by-cases (ℕ-discrete q p) (λ (z : q ≡ p). absurd (let y : lineAt (result j) q .moment ≡ lineAt (result j) p .moment = rw z in omega (arith, both)))
       (λ z. absurd (⊎-elim (λ b. omega (arith, both)) (λ b. omega (arith, both)) (log-sorted (run j) q p (omega arith) lp))))
     where
       a : ℕ
-      a = lineAt j p .op
+      a = lineAt (result j) p .op
 
       b : ℕ
-      b = lineAt j q .op
+      b = lineAt (result j) q .op
 
-      sp : Marked (lineAt j p .moment) (rowOf (run j) a)
+      sp : Marked (lineAt (result j) p .moment) (rowOf (run j) a)
       sp = log-says (run j) p lp
 
-      sq : Marked (lineAt j q .moment) (rowOf (run j) b)
+      sq : Marked (lineAt (result j) q .moment) (rowOf (run j) b)
       sq = log-says (run j) q lq
 
       then : Whole j (stateAt j (suc t))
@@ -128,14 +133,14 @@ module _ (j : Job) (ok : FileOk (j .file)) where
       said : rowOf (stateAt j (suc t)) a .code ≡ notYet → ⊥
       said = done-code then a (omega (arith, code-row (run j) a (sp .code), w .rows, then .rows)) (e .after)
 
-      early : lineAt j p .moment < suc t
+      early : lineAt (result j) p .moment < suc t
       early =
           omega (arith, sp .moment, kept-end j ok a (suc t) (e .within) said .1, then .past .right a said .1, stateAt-now j (suc t) (e .within))
 
-      late : u ≤ lineAt j q .moment
+      late : u ≤ lineAt (result j) q .moment
       late = omega (arith, sq .moment, row-moment b (sq .code) .0, first-ge (j .turns) b u (omega (arith, f .within)) (f .notBefore))
 
-      both : lineAt j p .moment < lineAt j q .moment
+      both : lineAt (result j) p .moment < lineAt (result j) q .moment
       both = omega (arith, early, late)
 
   can-move
@@ -153,23 +158,19 @@ module _ (j : Job) (ok : FileOk (j .file)) where
         λ w. true≢false (sym (w .idles) ∙ p .1),
       )
 
-  the-file : (f : File) → result j .file ≡ some f → f ≡ run j .file
-  unfolding result resultOf
-  the-file =
-      if-case (λ (o : Option File). (f : File) → o ≡ some f → f ≡ run j .file)
-      (λ t f e. let z : f ≡ run j .file = cc in z) (λ t f e. absurd (Option·none-ne-some f e))
-
   all-refused
       : (p : ℕ)
-      → p < length (log j)
-      → (answerOf j (lineAt j p .op) .code ≡ noDepth) ⊎ (answerOf j (lineAt j p .op) .code ≡ noPage)
-      → (findIn (fed j p .list) (opAt j p .call) ≡ none) × (fed j (suc p) .list ≡ fed j p .list)
-  unfolding fed log answerOf
+      → p < length (result j .log)
+      → (answerAt (result j) (lineAt (result j) p .op) .code ≡ noDepth) ⊎ (answerAt (result j) (lineAt (result j) p .op) .code ≡ noPage)
+      → (findIn (fed j (result j) p .list) (opAt j (result j) p .call) ≡ none) × (fed j (result j) (suc p) .list ≡ fed j (result j) p .list)
+  unfolding fed answerAt
   all-refused p l c = refused-at (j .ops) (result j .answers) (result j .log) (contents (j .file)) p (replayed j ok .0) l c
 
-  pub explained : Explained j
-  explained =
+  -- (`charged` is shown where bytes are: ReadBack)
+  pub explained : ((f : List ℕ) → result j .file ≡ some f → Accepted f × (jobOf f ≡ fileJob (run j .file))) → Explained j (result j)
+  explained charged =
       record {
+        count = answer-count;
         answers = all-answers;
         refused = all-refused;
         once = λ i n.
@@ -181,7 +182,7 @@ module _ (j : Job) (ok : FileOk (j .file)) where
           same-has _ _ (list-once _) same-find r,
           same-has _ _ end-once (λ k. sym (same-find k)) r,
         );
-        charged = the-file;
+        charged = charged;
         listOnce = list-once;
         fileOnce = λ t l. contents-twice _ (whole j ok t l .tidy .pages);
         order = in-order;

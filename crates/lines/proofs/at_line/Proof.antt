@@ -4,7 +4,7 @@ use Rattle.spec.specs.Bytes.{word, text}
 use Rattle.spec.specs.Report.{decimal, atLine}
 use Rattle.wire.specs.WroteLaws.{then}
 use Rattle.text.specs.Chain.{also}
-use Rattle.lines.specs.Told.{lineOf}
+use Rattle.spec.specs.Result.{lineOf}
 use borrow.Author.Needs.{needs}
 use Rattle.lines.proofs.at_line.Statement.{statement}
 use Rattle.lines.proofs.at_line.Tie as tie

@@ -1,8 +1,7 @@
 use mathlib.Core.Path.{sym, _∙_}
 use native.Mathlib.Omega.{arith}
-use lib.ListN.{length-drop}
+use Rattle.spec.specs.Result.{filePart}
 use Rattle.wire.specs.WroteLaws.{then, same, wider}
-use Rattle.text.specs.Sections.{lent-rest}
 use Rattle.report.proofs.Reading.{report-none, report-some}
 use borrow.Author.Needs.{needs}
 use Rattle.report.proofs.report.Statement.{statement}
@@ -34,41 +33,52 @@ returns c =
     (same (report-none (a .job .now) (a .result .now) (sym e ∙ c .if1 .taken))
     (then (then (c .before .before .before .before .before .before .before .before .before .before .before .before .job-line .ensures) (c .before .before .before .before .before .before .before .before .answer-lines .ensures)) (c .before .before .before .before .log-lines .ensures)))
 
+u32-at-requires-2 : tie.Need-u32-at-requires-2
+u32-at-requires-2 c κs = omega arith
+
+cast-total : tie.Need-cast-total
+cast-total c = omega arith
+
 sub-file-lines : tie.Need-sub-file-lines
 sub-file-lines c =
-    let a = c .before .before .before .before .before .before .before .before .before .before .before .before .before .before .before .before .before .before in
-    let f = c .before .before .u32-at in
-    let h = rw (← f .ensures) at (a .pre .1 .file (λ z. c .before .if1 .left (f .ensures ∙ z)) .header) in
-    omega (arith, length-drop (f .result) (a .args .result .now))
+    let a = c .before .before .before .before .before .before .before .before .before .before .before .before .before .before .before .before .before .before .before in
+    let f = c .before .before .before .u32-at in
+    let h = a .pre .1 .charge (λ z. c .before .before .if1 .left (f .ensures ∙ z)) in
+    omega (arith, h .ordered, f .ensures, c .before .u32-at2 .ensures)
 
 part-file-lines-start : tie.Need-part-file-lines-start
 part-file-lines-start c =
-    let a = c .before .before .before .before .before .before .before .before .before .before .before .before .before .before .before .before .before .before in
-    let f = c .before .before .u32-at in
-    let h = rw (← f .ensures) at (a .pre .1 .file (λ z. c .before .if1 .left (f .ensures ∙ z)) .header) in
-    omega (arith, length-drop (f .result) (a .args .result .now))
-
-part-file-lines-end : tie.Need-part-file-lines-end
-part-file-lines-end c = omega arith
-
-file-lines-requires : tie.Need-file-lines-requires
-file-lines-requires c κs =
     let a = c .before .before .before .before .before .before .before .before .before .before .before .before .before .before .before .before .before .before .before in
     let f = c .before .before .before .u32-at in
-    let h = a .pre .1 .file (λ z. c .before .before .if1 .left (f .ensures ∙ z)) in
-    rw (lent-rest (a .args .result .now) (f .result)) (omega arith, rw (f .ensures) h)
+    let h = a .pre .1 .charge (λ z. c .before .before .if1 .left (f .ensures ∙ z)) in
+    omega (arith, h .ordered, f .ensures, c .before .u32-at2 .ensures)
+
+part-file-lines-end : tie.Need-part-file-lines-end
+part-file-lines-end c =
+    let a = c .before .before .before .before .before .before .before .before .before .before .before .before .before .before .before .before .before .before .before in
+    let f = c .before .before .before .u32-at in
+    let h = a .pre .1 .charge (λ z. c .before .before .if1 .left (f .ensures ∙ z)) in
+    omega (arith, h .within, c .before .u32-at2 .ensures)
+
+file-lines-requires : tie.Need-file-lines-requires
+unfolding filePart
+file-lines-requires c κs =
+    let a = c .before .before .before .before .before .before .before .before .before .before .before .before .before .before .before .before .before .before .before .before in
+    let f = c .before .before .before .before .u32-at in
+    let h = a .pre .1 .charge (λ z. c .before .before .before .if1 .left (f .ensures ∙ z)) in
+    (omega arith, rw (f .ensures, c .before .before .u32-at2 .ensures) (h .file))
 
 same-length-2 : tie.Need-same-length-2
 same-length-2 c = search needs
 
 returns-2 : tie.Need-returns-2
 returns-2 c =
-    let a = c .before .before .before .before .before .before .before .before .before .before .before .before .before .before .before .before .before .before .before .before .before .before .args in
-    let f = c .before .before .before .before .before .before .u32-at in
-    let w = rw (lent-rest (a .result .now) (f .result)) at (c .before .before .file-lines .ensures) in
+    let a = c .before .before .before .before .before .before .before .before .before .before .before .before .before .before .before .before .before .before .before .before .before .before .before .args in
+    let f = c .before .before .before .before .before .before .before .u32-at in
+    let t = c .before .before .before .before .before .u32-at2 in
     wider (omega arith)
-    (same (report-some (a .job .now) (a .result .now) (f .result) (f .ensures) (c .before .before .before .before .before .if1 .left))
-    (then (then (then (c .before .before .before .before .before .before .before .before .before .before .before .before .before .before .before .before .before .job-line .ensures) (c .before .before .before .before .before .before .before .before .before .before .before .before .before .answer-lines .ensures)) (c .before .before .before .before .before .before .before .before .before .log-lines .ensures)) w))
+    (same (report-some (a .job .now) (a .result .now) (f .result) (t .result) (f .ensures) (t .ensures) (c .before .before .before .before .before .before .if1 .left))
+    (then (then (then (c .before .before .before .before .before .before .before .before .before .before .before .before .before .before .before .before .before .before .job-line .ensures) (c .before .before .before .before .before .before .before .before .before .before .before .before .before .before .answer-lines .ensures)) (c .before .before .before .before .before .before .before .before .before .before .log-lines .ensures)) (c .before .before .file-lines .ensures)))
 
 pub report-spec : {M : Type 1} → statement M
 report-spec =
@@ -81,6 +91,8 @@ report-spec =
     cast-file
     same-length
     returns
+    u32-at-requires-2
+    cast-total
     sub-file-lines
     part-file-lines-start
     part-file-lines-end

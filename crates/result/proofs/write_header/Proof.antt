@@ -19,9 +19,9 @@ same-length : tie.Need-same-length
 same-length c = omega arith
 
 returns : tie.Need-returns
-returns c = λ r n h.
+returns c = λ r h.
     let a = c .before .before .before .before .before .before .before .before .before .args in
-    result-header (a .result .now) r n (a .m) (a .lines) (a .under) (a .file) (a .total)
+    result-header (a .result .now) r (a .m) (a .lines) (a .under) (a .file) (a .total)
     (c .before .before .before .before .before .before .put-counts .ensures)
     (c .before .before .put-offsets .ensures)
     h

@@ -8,7 +8,7 @@ use Rattle.spec.specs.Report.{atLine}
 use Rattle.wire.specs.Wrote.{Wrote}
 use Rattle.wire.specs.WroteLaws.{none, then, same, wider, kept}
 use Rattle.wire.specs.Parts.{length-part}
-use Rattle.lines.specs.Told.{lineOf}
+use Rattle.spec.specs.Result.{lineOf}
 use Rattle.text.specs.Sections.{lent, each-more}
 use Rattle.report.proofs.sections.at_lines.Statement.{statement}
 use Rattle.report.proofs.sections.at_lines.Tie as tie

@@ -8,7 +8,7 @@ use Rattle.spec.specs.Report.{opLines}
 use Rattle.wire.specs.Wrote.{Wrote}
 use Rattle.wire.specs.WroteLaws.{none, then, same, wider, kept}
 use Rattle.wire.specs.Parts.{length-part}
-use Rattle.lines.specs.Told.{answerOf}
+use Rattle.spec.specs.Result.{answerOf}
 use Rattle.text.specs.Sections.{lent}
 use Rattle.report.proofs.Laws.{op-more}
 use Rattle.report.proofs.sections.op_lines.Statement.{statement}
