@@ -6,9 +6,13 @@ use std::hint::black_box;
 
 use chargefile_tests::check::{result_room, WORKING_MEMORY};
 use chargefile_tests::damage::{fault, scribble};
-use chargefile_tests::job::Counts;
+use chargefile_tests::explain::explain;
+use chargefile_tests::job::{Counts, Job};
+use chargefile_tests::little_endian::four_at;
 use chargefile_tests::make;
+use chargefile_tests::plain_list::PlainList;
 use chargefile_tests::random::Random;
+use chargefile_tests::result;
 use chargefile_tests::seeds::{each_seed, few_seeds};
 use chargefile_tests::{run, Outcome};
 use linked::{Lent, NO_ROW};
@@ -98,6 +102,35 @@ fn random_jobs() {
         println!("answers by code: {codes:?}");
         assert!(codes.iter().all(|count| *count > 1_000), "{codes:?}");
         assert!(files > 50_000, "results with a charge file: {files}");
+    }
+}
+
+/// The result is read from the buffer by what its own header says: its log explains every answer, and its charge file is a job by itself that
+/// holds what the plain list holds.
+#[test]
+fn the_buffer_explains_the_job() {
+    let mut files = 0;
+    let whole = few_seeds(20_000, |seed| {
+        let random = &mut Random::new(seed, "library explained");
+        let job = make::small_job(random);
+        let bytes = job.to_bytes();
+        let (room, rows, memory) = least(&bytes);
+        let mut lent = Lent::new(room + random.below(300), rows, memory);
+        let told = linked::run_only(&bytes, &mut lent);
+        let total = u64::from(four_at(&lent.result, 20));
+        assert_eq!((told.refusal, told.length), (0, total));
+        let read = result::from_bytes(&lent.result[..total as usize]).unwrap();
+        let list = explain(&job, &read).unwrap();
+        if let Some(charge_file) = &read.charge_file {
+            assert_eq!(linked::check(charge_file), None);
+            let file = Job::from_bytes(charge_file);
+            assert!(file.operations.is_empty() && file.turns.is_empty());
+            assert_eq!(PlainList::of(&file.file.holds()), Ok(list));
+            files += 1;
+        }
+    });
+    if whole {
+        assert!(files > 5_000, "results with a charge file: {files}");
     }
 }
 
