@@ -13,7 +13,7 @@
  *   - A refused job has written to no lent memory whatever: every lent byte and row is what it was.
  *     (Number and place of the refusal are returned by value.)
  *   - The job's own bytes are never written.
- *   - Refusal 0 is told exactly when no row of the refusal table holds.
+ *   - Refusal 0 is told exactly when no row of the refusal table holds (for a check, 1 to 10).
  *   - A job that meets no row of the refusal table is run, and the log explains every answer.
  *
  * The caller's part, which no proof of the library can see to:
