@@ -13,12 +13,14 @@
  *   - A refused job has written to no lent memory whatever: every lent byte and row is what it was.
  *     (Number and place of the refusal are returned by value.)
  *   - The job's own bytes are never written.
+ *   - Refusal 0 is told exactly when no row of the refusal table holds (for a check, 1 to 10).
  *   - A job that meets no row of the refusal table is run, and the log explains every answer.
  *
  * The caller's part, which no proof of the library can see to:
  *
- *   - Each pointer leads to as many bytes or rows as the length beside it says. The length of `rows`
- *     counts rows, not bytes. Where a length is 0 the pointer is not followed and may be NULL.
+ *   - Each pointer leads to as many bytes or rows as the length beside it says. The length of
+ *     `rows` counts rows, not bytes. Where a length is 0 the pointer is not followed and may be
+ *     NULL.
  *   - No two of the lent parts overlap, and nobody else writes to them during the call.
  *   - `rows` is aligned to 4 bytes, as the compiler aligns an array of this type. Job, result and
  *     working memory are bytes and need no alignment.
@@ -266,8 +268,8 @@ chargefile_outcome chargefile_check(const uint8_t *job, size_t job_length);
  * More may be lent. What they hold beforehand does not matter.
  *
  * Refusal 0: the job was run. Then
- *   - the result stands at the start of `result`, and `length` is its length (the result's own field
- *     at CHARGEFILE_RESULT_AT_TOTAL says the same);
+ *   - the result stands at the start of `result`, and `length` is its length (the result's own
+ *     field at CHARGEFILE_RESULT_AT_TOTAL says the same);
  *   - the bytes of `result` past that length keep their values;
  *   - every row of `rows` and every byte of `memory` is zero, also past what the job needed.
  * Any other number: `result`, `rows` and `memory` are as they were.

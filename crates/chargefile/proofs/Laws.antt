@@ -1,19 +1,46 @@
--- What is handed over, of a check and of a run.
+-- Refusal 0 is told exactly when no row of the refusal table holds; and what is handed over, of a check and of a run.
 use Prim.Native.Nat.{ℕ}
-use mathlib.Core.Path.{_≡_, ap, subst, _∙_}
+use mathlib.Core.Path.{_≡_, refl, sym, ap, subst, _∙_}
+use mathlib.Core.Logic.{_↔_}
 use mathlib.Core.List.{List}
+use mathlib.Core.Option.{Option, none, some, Option·none-ne-some}
 use Rattle.spec.specs.declared.Outcome.{Outcome}
-use Rattle.spec.specs.Check.{jobFault}
+use Rattle.spec.specs.declared.Outcome.the-variants.{Ran, Refused}
+use Rattle.spec.specs.Check.{Fault, jobFault, firstFault}
 use Rattle.spec.specs.Cases.{checkedOf}
+use Rattle.spec.specs.Outcome.{outcomeBy, outcome}
+use Rattle.laws.specs.Codec.Numbered.{Numbered, job-numbered, first-numbered}
 use Rattle.turn.specs.declared.Row.{Row}
-use Rattle.run.specs.Call.{Settled}
+use Rattle.run.specs.Call.{lent, Settled}
 use Rattle.chargefile.specs.declared.CallOutcome.{CallOutcome}
 use Rattle.chargefile.specs.Handed.{handed, outcomeOf}
 use Rattle.chargefile.specs.Called.{CheckCalled, Called}
 
+-- an outcome that goes by a fault, whose number is not 0
+zero-none
+    : (o : Option Fault) (by : Option Fault → Outcome) {k : ℕ}
+    → by none ≡ Ran k
+    → ((f : Fault) → by (some f) ≡ Refused (f .number) (f .place))
+    → Numbered o
+    → (handed (by o) .refusal ≡ 0) ↔ (o ≡ none)
+unfolding handed
+zero-none none by n s z = (λ e. refl, λ e. ap (λ (v : Outcome). handed v .refusal) n)
+zero-none (some f) by n s z =
+    (λ e. absurd (z f refl (sym (ap (λ (v : Outcome). handed v .refusal) (s f)) ∙ e)), λ e. absurd (Option·none-ne-some _ (sym e)))
+
+check-zero : (b : List ℕ) → (handed (outcomeOf (checkedOf (jobFault b))) .refusal ≡ 0) ↔ (jobFault b ≡ none)
+unfolding outcomeOf checkedOf
+check-zero b = zero-none (jobFault b) (λ o. outcomeOf (checkedOf o)) refl (λ f. refl) (job-numbered b)
+
+module _ (b s : List ℕ) (x : List Row) (w : List ℕ) where
+  run-zero : (handed (outcome (lent s x w) b) .refusal ≡ 0) ↔ (firstFault (lent s x w) b ≡ none)
+  unfolding outcome outcomeBy
+  run-zero = zero-none (firstFault (lent s x w) b) (λ o. outcomeBy o b) refl (λ f. refl) (first-numbered (lent s x w) b)
+
 -- a check's answer, handed over
 pub check-called : (b : List ℕ) {r : CallOutcome} → r ≡ handed (outcomeOf (checkedOf (jobFault b))) → CheckCalled b r
-check-called b e = record { handed = e }
+check-called b e =
+    record { handed = e; accepted = subst (λ (v : CallOutcome). (v .refusal ≡ 0) ↔ (jobFault b ≡ none)) (sym e) (check-zero b) }
 
 -- a run's outcome o, handed over
 pub called
@@ -22,7 +49,9 @@ pub called
     → r ≡ handed o
     → Called b s t x y w u r
 called {b} {s} {t} {x} {y} {w} {u} o h z =
+    let e = z ∙ ap handed (h .answer) in
     record {
       run = subst (λ (v : Outcome). Settled b s t x y w u v) (h .answer) h;
-      handed = z ∙ ap handed (h .answer);
+      handed = e;
+      accepted = subst (λ (v : CallOutcome). (v .refusal ≡ 0) ↔ (firstFault (lent s x w) b ≡ none)) (sym e) (run-zero b s x w);
     }

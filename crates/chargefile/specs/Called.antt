@@ -1,8 +1,10 @@
 -- What the two calls come to for a C or Rust program: the numbers that it gets, and the run's whole outcome.
 use Prim.Native.Nat.{ℕ}
 use mathlib.Core.Path.{_≡_}
+use mathlib.Core.Logic.{_↔_}
 use mathlib.Core.List.{List}
-use Rattle.spec.specs.Check.{jobFault}
+use mathlib.Core.Option.{none}
+use Rattle.spec.specs.Check.{jobFault, firstFault}
 use Rattle.spec.specs.Cases.{checkedOf}
 use Rattle.spec.specs.Outcome.{outcome}
 use Rattle.turn.specs.declared.Row.{Row}
@@ -10,11 +12,14 @@ use Rattle.run.specs.Call.{lent, Settled}
 use Rattle.chargefile.specs.declared.CallOutcome.{CallOutcome}
 use Rattle.chargefile.specs.Handed.{handed, outcomeOf}
 
--- The check of the bytes b; r is returned
+-- The check of the bytes b; r is returned. Refusal 0 is told exactly when no row of the refusal table about a job's bytes holds
 pub record CheckCalled (b : List ℕ) (r : CallOutcome) : Type 0 where
   pub handed : r ≡ handed (outcomeOf (checkedOf (jobFault b)))
+  pub accepted : (r .refusal ≡ 0) ↔ (jobFault b ≡ none)
 
--- The run of the bytes b; result buffer, table and memory before (s, x, w) and after (t, y, u); r is returned
+-- The run of the bytes b; result buffer, table and memory before (s, x, w) and after (t, y, u); r is returned. Refusal 0 is told exactly when no
+-- row of the refusal table holds
 pub record Called (b s t : List ℕ) (x y : List Row) (w u : List ℕ) (r : CallOutcome) : Type 0 where
   pub run : Settled b s t x y w u (outcome (lent s x w) b)
   pub handed : r ≡ handed (outcome (lent s x w) b)
+  pub accepted : (r .refusal ≡ 0) ↔ (firstFault (lent s x w) b ≡ none)

@@ -6,8 +6,9 @@ pub mod Parts
 pub mod Numbers
 pub mod Pieces
 pub mod Places
--- what each row of the refusal table says where it does not hold
+-- what each row of the refusal table says where it does not hold; and that no row has the number 0
 pub mod Rows
+pub mod Numbered
 pub mod Longest
 pub mod InUse
 pub mod Owner
