@@ -10,7 +10,7 @@ use Rattle.spec.specs.declared.Op.{Op}
 use Rattle.spec.specs.Basics.{Each, end}
 use Rattle.spec.specs.Bytes.{AreBytes}
 use Rattle.spec.specs.File.{File}
-use Rattle.spec.specs.Job.{Job, fileJob, noOp}
+use Rattle.spec.specs.Job.{Job, noOp}
 use Rattle.spec.specs.Encode.{encodeFile}
 use Rattle.spec.specs.Decode.{jobOf}
 use Rattle.spec.specs.State.{Row, gone}
@@ -20,7 +20,7 @@ use Rattle.spec.specs.Result.{toldOf, logOf, countUnder, fileLeft, resultOf, re
 use Rattle.spec.specs.Check.{jobFault}
 use Rattle.spec.specs.Outcome.{resultBytes}
 use Rattle.spec.specs.Proper.{FileOk}
-use Rattle.spec.specs.Claims.{stateAt, noLine}
+use Rattle.spec.specs.Claims.{stateAt, noLine, IsFile}
 use Rattle.laws.specs.Tools.{if-case, each-imp, each-or, each-at}
 use Rattle.laws.specs.Codec.Tools.{each-map, each-places}
 use Rattle.laws.specs.Codec.Back.{RecFits}
@@ -35,7 +35,8 @@ use Rattle.laws.specs.Turns.States.{stateAt-end, run-now}
 use Rattle.laws.specs.Turns.Narrow.{EveryRecord, run-every}
 use Rattle.laws.specs.Turns.Fields.{cut, cut-run}
 use Rattle.laws.specs.Turns.Log.{log-says, log-rows}
-use Rattle.laws.specs.Turns.Sizes.{used-le, log-le}
+use Rattle.laws.specs.Turns.Sizes.{used-le, log-le, code-small}
+use Rattle.laws.specs.Turns.Theorem.{answer-count}
 
 -- calls and charges keep their 32 bits through a run: those of every page, and every charge that is answered
 page-records : (f : File) → FileOk f → RecordsFit f → EveryRecord RecFits f
@@ -84,7 +85,7 @@ module _ (b : List ℕ) (bytes : AreBytes b) (accepted : jobFault b ≡ none) wh
   w = end-whole j (proper .file)
 
   -- THE CHARGE FILE in the result is accepted as a job, with no fault of 1 to 10, and is the file after the last turn
-  pub read-back : (f : List ℕ) → result j .file ≡ some f → (jobFault f ≡ none) × (jobOf f ≡ fileJob (run j .file))
+  pub read-back : (f : List ℕ) → result j .file ≡ some f → IsFile f (run j .file)
   read-back f e = rw (← is-that) (file-accepted (run j .file) ok fits, file-comes-back (run j .file) ok fits)
     where
       ended : result j .unended ≡ 0
@@ -105,7 +106,7 @@ module _ (b : List ℕ) (bytes : AreBytes b) (accepted : jobFault b ≡ none) wh
   answers-fit =
       each-map toldOf (run j .rows) .1
       (each-places (run j .rows) gone .1
-      (λ i l. record { used = omega (arith, used-le j i, proper .turnCount); charge = narrow j proper .1 i }))
+      (λ i l. record { code = code-small j (proper .file) i; used = omega (arith, used-le j i, proper .turnCount); charge = narrow j proper .1 i }))
 
   line-fits : (p : ℕ) → p < length (logOf (run j)) → LineFits (getD (logOf (run j)) p noLine)
   line-fits p l =
@@ -122,7 +123,7 @@ module _ (b : List ℕ) (bytes : AreBytes b) (accepted : jobFault b ≡ none) wh
         version = omega arith;
         unended = omega (arith, under-le (run j .rows), w .rows, proper .opCount);
         total = rw length-map;
-        count = length-map (run j .rows) toldOf ∙ w .rows;
+        count = answer-count j (proper .file);
         answers = answers-fit;
         lines = omega (arith, log-le j (proper .file), proper .opCount);
         log = each-places (logOf (run j)) noLine .1 line-fits;

@@ -1,10 +1,10 @@
 -- A test that fails refutes the claim: where a field of `Explained` holds, the test of that name in Weighed is true.
 -- Each is shown from the field's statement alone. No law on turns or bytes is used, and no definition of the machine is opened, so it holds
 -- whatever the machine is, and whatever the result: one on which one of the fourteen tests is false does not explain the job (`passes`).
-use Prim.Native.Nat.{ℕ, zero, suc, _<_, _≤_}
+use Prim.Native.Nat.{ℕ, zero, suc, _<_}
 use mathlib.Core.Path.{_≡_, refl, ap}
-use mathlib.Core.Logic.{_⊎_, inl, inr, _↔_}
-use mathlib.Core.List.{List, [], _∷_, map}
+use mathlib.Core.Logic.{_⊎_, inl, inr}
+use mathlib.Core.List.{List, [], _∷_}
 use mathlib.Core.Bool.{Bool, true, false, not, _&&_, _||_, false≢true, or-true}
 use mathlib.Core.Option.{Option, none, some}
 use native.Mathlib.Omega.{arith}
@@ -18,16 +18,15 @@ use Rattle.spec.specs.declared.Kind.the-variants.{Search, Insert, Delete}
 use Rattle.spec.specs.declared.Stage.{Stage}
 use Rattle.spec.specs.declared.Stage.the-variants.{NotBegun, ReadPage, Reread, Lock, Held, Split, Done}
 use Rattle.spec.specs.Basics.{isSome, allOf, Has, here, there}
-use Rattle.spec.specs.Code.{notYet, noDepth, noPage}
-use Rattle.spec.specs.File.{Page, File, findIn, contents}
-use Rattle.spec.specs.Job.{Job, fileJob, noOp}
-use Rattle.spec.specs.Decode.{jobOf}
+use Rattle.spec.specs.Code.{noDepth, noPage}
+use Rattle.spec.specs.File.{Page, File}
+use Rattle.spec.specs.Job.{Job, noOp}
 use Rattle.spec.specs.State.{State}
 use Rattle.spec.specs.Run.{stageOf, run}
 use Rattle.spec.specs.Result.{Line, Result}
-use Rattle.spec.specs.PlainList.{Reply, replyOf}
+use Rattle.spec.specs.PlainList.{Reply}
 use Rattle.spec.specs.Proper.{NoneTwice, empty, more}
-use Rattle.spec.specs.Claims.{stateAt, times, lineAt, answerAt, opAt, fed, FirstTurn, Ended, Waits, Before, Accepted, Explained}
+use Rattle.spec.specs.Claims.{stateAt, FirstTurn, Ended, Waits, Before, IsFile, Explained}
 use Rattle.laws.specs.Tools.{and-left, and-right}
 use Rattle.laws.specs.Weighed.{every, some-of, sameRec, sameReply, same, samePage, sameFile, isFile, member, noneTwice, isDone, isSearch, waits, ended, first, precedes}
 use Rattle.laws.specs.Weighed.{count, answers, refused, once, noOther, sorted, held, charged, listOnce, fileOnce, order, searches, progressAt, progress, finished}
@@ -47,6 +46,9 @@ is-or {a = false} h = h refl
 
 is-and : {a b : Bool} → a ≡ true → b ≡ true → (a && b) ≡ true
 is-and p q = rw (p, q)
+
+eqb-same : (n : ℕ) → eqb n n ≡ true
+eqb-same n = eq-eqb n n refl
 
 clash : {a : Bool} → a ≡ true → not a ≡ true → ⊥
 clash {a = true} p q = false≢true q
@@ -83,11 +85,11 @@ same-true f h {xs} e = rw (← e) (go xs)
 
 sameRec-true : (a : Rec) → sameRec a a ≡ true
 unfolding sameRec
-sameRec-true a = is-and (eq-eqb (a .call) _ refl) (eq-eqb (a .charge) _ refl)
+sameRec-true a = is-and (eqb-same (a .call)) (eqb-same (a .charge))
 
 sameReply-true : (a : Reply) → sameReply a a ≡ true
 unfolding sameReply
-sameReply-true a = is-and (eq-eqb (a .code) _ refl) (eq-eqb (a .charge) _ refl)
+sameReply-true a = is-and (eqb-same (a .code)) (eqb-same (a .charge))
 
 member-true : {r : Rec} {rs : List Rec} → Has r rs → member r rs ≡ true
 unfolding member
@@ -155,176 +157,144 @@ unfolding precedes
 precedes-true a b (inl l) = rw (lt-ltb _ _ l)
 precedes-true a b (inr h) = is-or {a = ltb (a .moment) (b .moment)} (λ e. is-and (eq-eqb _ _ (h .0)) (lt-ltb _ _ (h .1)))
 
-one : (n : ℕ) → eqb n n ≡ true
-one n = eq-eqb n n refl
-
 samePage-true : (p : Page) → samePage p p ≡ true
 unfolding samePage
 samePage-true p =
-    is-and (is-and (eq-eqb (p .depth) _ refl) (eq-eqb (p .pattern) _ refl)) (same-true sameRec sameRec-true {xs = p .records} refl)
+    is-and (is-and (eqb-same (p .depth)) (eqb-same (p .pattern))) (same-true sameRec sameRec-true {xs = p .records} refl)
 
 sameFile-true : (f : File) → sameFile f f ≡ true
 unfolding sameFile
 sameFile-true f =
-    is-and (is-and (is-and (is-and (is-and (one (f .g)) (one (f .c))) (one (f .limit))) (one (f .used))) (same-true eqb one {xs = f .directory} refl))
+    is-and (is-and (is-and (is-and (is-and (eqb-same (f .g)) (eqb-same (f .c))) (eqb-same (f .limit))) (eqb-same (f .used))) (same-true eqb eqb-same {xs = f .directory} refl))
     (same-true samePage samePage-true {xs = f .table} refl)
 
-isFile-true : (o : Option (List ℕ)) (h : File) → ((f : List ℕ) → o ≡ some f → Accepted f × (jobOf f ≡ fileJob h)) → isFile o h ≡ true
+isFile-true : (o : Option (List ℕ)) (h : File) → ((b : List ℕ) → o ≡ some b → IsFile b h) → isFile o h ≡ true
 unfolding isFile isSome
 isFile-true none h e = refl
-isFile-true (some f) h e = let k = e f refl in rw (k .0, k .1) (is-and (is-and (sameFile-true h) (one 0)) (one 0))
+isFile-true (some b) h e = let k = e b refl in rw (k .0, k .1) (is-and (is-and (sameFile-true h) (eqb-same 0)) (eqb-same 0))
 
 -- The fields, in the claim's order.
-pub count-true : (j : Job) (r : Result) → length (r .answers) ≡ length (j .ops) → count j r ≡ true
-unfolding count
-count-true j r h = eq-eqb _ _ h
+module _ (j : Job) (r : Result) (e : Explained j r) where
+  count-true : count j r ≡ true
+  unfolding count
+  count-true = eq-eqb _ _ (e .count)
 
-pub answers-true : (j : Job) (r : Result) → fed j r (length (r .log)) .replies ≡ map (λ h. replyOf (answerAt r (h .op))) (r .log) → answers j r ≡ true
-unfolding answers
-answers-true j r h = same-true sameReply sameReply-true h
+  answers-true : answers j r ≡ true
+  unfolding answers
+  answers-true = same-true sameReply sameReply-true (e .answers)
 
-pub refused-true
-    : (j : Job) (r : Result)
-    → ((p : ℕ)
-    → p < length (r .log)
-    → (answerAt r (lineAt r p .op) .code ≡ noDepth) ⊎ (answerAt r (lineAt r p .op) .code ≡ noPage)
-    → (findIn (fed j r p .list) (opAt j r p .call) ≡ none) × (fed j r (suc p) .list ≡ fed j r p .list))
-    → refused j r ≡ true
-unfolding refused isSome
-refused-true j r h =
-    every-true _ _
-    (λ p l.
-    is-or
-    (λ e.
-    let (missing, kept) = h p l (says-refused _ (not-false _ e)) in
-    is-and (ap (λ x. not (isSome x)) missing) (same-true sameRec sameRec-true kept)))
+  refused-true : refused j r ≡ true
+  unfolding refused isSome
+  refused-true =
+      every-true _ _
+      (λ p l.
+      is-or
+      (λ t.
+      let (missing, kept) = e .refused p l (says-refused _ (not-false _ t)) in
+      is-and (ap (λ x. not (isSome x)) missing) (same-true sameRec sameRec-true kept)))
 
-pub once-true : (j : Job) (r : Result) → ((i : ℕ) → (answerAt r i .code ≡ notYet → ⊥) → times i (r .log) ≡ 1) → once j r ≡ true
-unfolding once
-once-true j r h = every-true _ _ (λ i l. is-or (λ e. eq-eqb _ _ (h i (eqb-false _ _ e))))
+  once-true : once j r ≡ true
+  unfolding once
+  once-true = every-true _ _ (λ i l. is-or (λ t. eq-eqb _ _ (e .once i (eqb-false _ _ t))))
 
-pub noOther-true : (j : Job) (r : Result) → ((i : ℕ) → answerAt r i .code ≡ notYet → times i (r .log) ≡ 0) → noOther j r ≡ true
-unfolding noOther
-noOther-true j r h = every-true _ _ (λ i l. is-or (λ e. eq-eqb _ _ (h i (eqb-true _ _ (not-false _ e)))))
+  noOther-true : noOther j r ≡ true
+  unfolding noOther
+  noOther-true = every-true _ _ (λ i l. is-or (λ t. eq-eqb _ _ (e .noOther i (eqb-true _ _ (not-false _ t)))))
 
-pub sorted-true : (j : Job) (r : Result) → ((p q : ℕ) → p < q → q < length (r .log) → Before (lineAt r p) (lineAt r q)) → sorted j r ≡ true
-unfolding sorted
-sorted-true j r h = every-true _ _ (λ q l. every-true _ _ (λ p k. precedes-true _ _ (h p q k l)))
+  sorted-true : sorted j r ≡ true
+  unfolding sorted
+  sorted-true = every-true _ _ (λ q l. every-true _ _ (λ p k. precedes-true _ _ (e .sorted p q k l)))
 
-pub held-true : (j : Job) (r : Result) → ((c : Rec) → Has c (fed j r (length (r .log)) .list) ↔ Has c (contents (run j .file))) → held j r ≡ true
-unfolding held
-held-true j r h = is-and (all-true _ _ (λ c k. member-true (h c .0 k))) (all-true _ _ (λ c k. member-true (h c .1 k)))
+  held-true : held j r ≡ true
+  unfolding held
+  held-true = is-and (all-true _ _ (λ c k. member-true (e .held c .0 k))) (all-true _ _ (λ c k. member-true (e .held c .1 k)))
 
-pub charged-true : (j : Job) (r : Result) → ((f : List ℕ) → r .file ≡ some f → Accepted f × (jobOf f ≡ fileJob (run j .file))) → charged j r ≡ true
-unfolding charged
-charged-true j r h = isFile-true (r .file) (run j .file) h
+  charged-true : charged j r ≡ true
+  unfolding charged
+  charged-true = isFile-true (r .file) (run j .file) (e .charged)
 
-pub listOnce-true : (j : Job) (r : Result) → ((n : ℕ) → NoneTwice (fed j r n .list)) → listOnce j r ≡ true
-unfolding listOnce
-listOnce-true j r h = every-true _ _ (λ n l. noneTwice-true (h n))
+  listOnce-true : listOnce j r ≡ true
+  unfolding listOnce
+  listOnce-true = every-true _ _ (λ n l. noneTwice-true (e .listOnce n))
 
-pub fileOnce-true : (j : Job) (r : Result) → ((t : ℕ) → t ≤ length (j .turns) → NoneTwice (contents (stateAt j t .file))) → fileOnce j r ≡ true
-unfolding fileOnce
-fileOnce-true j r h = every-true _ _ (λ t l. noneTwice-true (h t (omega arith)))
+  fileOnce-true : fileOnce j r ≡ true
+  unfolding fileOnce
+  fileOnce-true = every-true _ _ (λ t l. noneTwice-true (e .fileOnce t (omega arith)))
 
-pub order-true
-    : (j : Job) (r : Result)
-    → ((p q t u : ℕ)
-    → p < length (r .log)
-    → q < length (r .log)
-    → Ended j (lineAt r p .op) t
-    → FirstTurn j (lineAt r q .op) u
-    → t < u
-    → p < q)
-    → order j r ≡ true
-unfolding order
-order-true j r h =
-    every-true _ _
-    (λ q l.
-    every-true _ _
-    (λ p k.
-    every-true _ _
-    (λ u m.
-    is-or
-    (λ f.
-    every-true _ _
-    (λ t n.
-    is-not
-    (λ e.
-    let later : q < p = h q p t u l (omega arith) (says-ended j _ t (omega arith) e) (says-first j _ u m (not-false _ f)) n in
-    omega arith))))))
+  order-true : order j r ≡ true
+  unfolding order
+  order-true =
+      every-true _ _
+      (λ q l.
+      every-true _ _
+      (λ p k.
+      every-true _ _
+      (λ u m.
+      is-or
+      (λ f.
+      every-true _ _
+      (λ t n.
+      is-not
+      (λ d.
+      let later : q < p = e .order q p t u l (omega arith) (says-ended j _ t (omega arith) d) (says-first j _ u m (not-false _ f)) n in
+      omega arith))))))
 
-pub searches-true
-    : (j : Job) (r : Result)
-    → ((t i : ℕ) → t ≤ length (j .turns) → getD (j .ops) i noOp .kind ≡ Search → Waits (stateAt j t) i → ⊥)
-    → searches j r ≡ true
-unfolding searches
-searches-true j r h =
-    every-true _ _
-    (λ t l.
-    every-true _ _
-    (λ i k.
-    is-not
-    (λ e.
-    h t i (omega arith) (says-search _ (and-left _ _ e))
-    (says-waits _ i (and-right (isSearch (getD (j .ops) i noOp .kind)) _ e)))))
+  searches-true : searches j r ≡ true
+  unfolding searches
+  searches-true =
+      every-true _ _
+      (λ t l.
+      every-true _ _
+      (λ i k.
+      is-not
+      (λ d.
+      e .searches t i (omega arith) (says-search _ (and-left _ _ d))
+      (says-waits _ i (and-right (isSearch (getD (j .ops) i noOp .kind)) _ d)))))
 
-pub progress-true
-    : (j : Job) (r : Result)
-    → ((t i : ℕ)
-    → t ≤ length (j .turns)
-    → i < length (j .ops)
-    → (stageOf (stateAt j t) i ≡ Done → ⊥)
-    → (k : ℕ) × (k < length (j .ops)) × (stageOf (stateAt j t) k ≡ Done → ⊥) × (Waits (stateAt j t) k → ⊥))
-    → progress j r ≡ true
-unfolding progress progressAt
-progress-true j r h =
-    every-true _ _
-    (λ t m.
-    every-or _ (λ i. isDone (stageOf (stateAt j t) i)) _
-    (λ i l d.
-    let k = h t i (omega arith) l (undone d) in
-    some-true _ (λ i. not (isDone (stageOf (stateAt j t) i)) && not (waits (stateAt j t) i)) (k .0) (k .1)
-    (is-and (is-not (λ x. k .2 (says-done _ x))) (is-not (λ x. k .3 (says-waits _ _ x))))))
+  progress-true : progress j r ≡ true
+  unfolding progress progressAt
+  progress-true =
+      every-true _ _
+      (λ t m.
+      every-or _ (λ i. isDone (stageOf (stateAt j t) i)) _
+      (λ i l d.
+      let k = e .progress t i (omega arith) l (undone d) in
+      some-true _ (λ i. not (isDone (stageOf (stateAt j t) i)) && not (waits (stateAt j t) i)) (k .0) (k .1)
+      (is-and (is-not (λ x. k .2 (says-done _ x))) (is-not (λ x. k .3 (says-waits _ _ x))))))
 
-pub finished-true
-    : (j : Job) (r : Result)
-    → ((i : ℕ) → i < length (j .ops) → stageOf (run j) i ≡ Done → answerAt r i .code ≡ notYet → ⊥)
-    → finished j r ≡ true
-unfolding finished
-finished-true j r h = every-true _ _ (λ i l. is-or (λ e. is-not (λ c. h i l (says-done _ (not-false _ e)) (eqb-true _ _ c))))
+  finished-true : finished j r ≡ true
+  unfolding finished
+  finished-true = every-true _ _ (λ i l. is-or (λ t. is-not (λ c. e .finished i l (says-done _ (not-false _ t)) (eqb-true _ _ c))))
 
--- all of them
-pub passes
-    : (j : Job) (r : Result)
-    → Explained j r
-    → (count j r ≡ true)
-    × (answers j r ≡ true)
-    × (refused j r ≡ true)
-    × (once j r ≡ true)
-    × (noOther j r ≡ true)
-    × (sorted j r ≡ true)
-    × (held j r ≡ true)
-    × (charged j r ≡ true)
-    × (listOnce j r ≡ true)
-    × (fileOnce j r ≡ true)
-    × (order j r ≡ true)
-    × (searches j r ≡ true)
-    × (progress j r ≡ true)
-    × (finished j r ≡ true)
-passes j r e = (
-  count-true j r (e .count),
-  answers-true j r (e .answers),
-  refused-true j r (e .refused),
-  once-true j r (e .once),
-  noOther-true j r (e .noOther),
-  sorted-true j r (e .sorted),
-  held-true j r (e .held),
-  charged-true j r (e .charged),
-  listOnce-true j r (e .listOnce),
-  fileOnce-true j r (e .fileOnce),
-  order-true j r (e .order),
-  searches-true j r (e .searches),
-  progress-true j r (e .progress),
-  finished-true j r (e .finished),
-)
+  -- all of them
+  pub passes
+      : (count j r ≡ true)
+      × (answers j r ≡ true)
+      × (refused j r ≡ true)
+      × (once j r ≡ true)
+      × (noOther j r ≡ true)
+      × (sorted j r ≡ true)
+      × (held j r ≡ true)
+      × (charged j r ≡ true)
+      × (listOnce j r ≡ true)
+      × (fileOnce j r ≡ true)
+      × (order j r ≡ true)
+      × (searches j r ≡ true)
+      × (progress j r ≡ true)
+      × (finished j r ≡ true)
+  passes = (
+    count-true,
+    answers-true,
+    refused-true,
+    once-true,
+    noOther-true,
+    sorted-true,
+    held-true,
+    charged-true,
+    listOnce-true,
+    fileOnce-true,
+    order-true,
+    searches-true,
+    progress-true,
+    finished-true,
+  )

@@ -248,58 +248,63 @@ jobs =
 abbrev Passes : (Job → Result → Bool) → Type 0
 Passes test = map (λ (j : Job). test j (readResult (encodeResult (result j)))) jobs ≡ map (λ (j : Job). true) jobs
 
+-- opens the tests, and what they ask, for a proof by computation
+unfoldable tested : Unit {0}
+unfolding stateAt times answerAt fed every sameRec sameReply same member noneTwice samePage sameFile isFile isDone isSearch waits ended first precedes progressAt
+tested = tt
+
 count-passes : Passes count
-unfolding opened count
+unfolding opened tested count
 count-passes = refl
 
 answers-passes : Passes answers
-unfolding opened stateAt times answerAt fed every sameRec sameReply same member noneTwice isDone isSearch waits ended first precedes answers
+unfolding opened tested answers
 answers-passes = refl
 
 refused-passes : Passes refused
-unfolding opened stateAt times answerAt fed every sameRec sameReply same member noneTwice isDone isSearch waits ended first precedes refused
+unfolding opened tested refused
 refused-passes = refl
 
 once-passes : Passes once
-unfolding opened stateAt times answerAt fed every sameRec sameReply same member noneTwice isDone isSearch waits ended first precedes once
+unfolding opened tested once
 once-passes = refl
 
 noOther-passes : Passes noOther
-unfolding opened stateAt times answerAt fed every sameRec sameReply same member noneTwice isDone isSearch waits ended first precedes noOther
+unfolding opened tested noOther
 noOther-passes = refl
 
 sorted-passes : Passes sorted
-unfolding opened stateAt times answerAt fed every sameRec sameReply same member noneTwice isDone isSearch waits ended first precedes sorted
+unfolding opened tested sorted
 sorted-passes = refl
 
 held-passes : Passes held
-unfolding opened stateAt times answerAt fed every sameRec sameReply same member noneTwice isDone isSearch waits ended first precedes held
+unfolding opened tested held
 held-passes = refl
 
 charged-passes : Passes charged
-unfolding opened stateAt times answerAt fed every sameRec sameReply same samePage sameFile isFile charged
+unfolding opened tested charged
 charged-passes = refl
 
 listOnce-passes : Passes listOnce
-unfolding opened stateAt times answerAt fed every sameRec sameReply same member noneTwice isDone isSearch waits ended first precedes listOnce
+unfolding opened tested listOnce
 listOnce-passes = refl
 
 fileOnce-passes : Passes fileOnce
-unfolding opened stateAt times answerAt fed every sameRec sameReply same member noneTwice isDone isSearch waits ended first precedes fileOnce
+unfolding opened tested fileOnce
 fileOnce-passes = refl
 
 order-passes : Passes order
-unfolding opened stateAt times answerAt fed every sameRec sameReply same member noneTwice isDone isSearch waits ended first precedes order
+unfolding opened tested order
 order-passes = refl
 
 searches-passes : Passes searches
-unfolding opened stateAt times answerAt fed every sameRec sameReply same member noneTwice isDone isSearch waits ended first precedes searches
+unfolding opened tested searches
 searches-passes = refl
 
 progress-passes : Passes progress
-unfolding opened stateAt times answerAt fed every sameRec sameReply same member noneTwice isDone isSearch waits ended first precedes progressAt progress
+unfolding opened tested progress
 progress-passes = refl
 
 finished-passes : Passes finished
-unfolding opened stateAt times answerAt fed every sameRec sameReply same member noneTwice isDone isSearch waits ended first precedes finished
+unfolding opened tested finished
 finished-passes = refl

@@ -13,7 +13,7 @@ use Rattle.spec.specs.Decode.{headerOf, pageParts, opParts, opOf, pageOf, fileO
 use Rattle.spec.specs.Result.{answerOf, lineOf, answersIn, logIn, filePart, fileIn, readResult}
 use Rattle.spec.specs.Report.{jobLine, opLines, atLine, pageLines, pagesPart, report}
 use Rattle.report.specs.Read.{reportOf}
-use Rattle.report.specs.Sound.{OpsSound, FileSound, Counts}
+use Rattle.report.specs.Sound.{OpsSound, FileSound, Counts, Sound}
 
 pub answers-read
     : (job res : List ℕ) (m p q : ℕ)
@@ -44,6 +44,17 @@ module _ (b : List ℕ) (c u t : ℕ) (e : c ≡ byte b 3) (f : u ≡ word b 6) 
 
   pub file-asks : (4 + 8 * c) * u ≤ length (drop t b) × (4 + 8 * c ≤ 68) × (u ≤ 256) × Counts (drop t b) (4 + 8 * c) u
   file-asks = rw (e, f, g) (omega (arith, h .table, length-drop (long b 16) b), omega (arith, h .capacity), h .few, h .counts)
+
+-- where there is a charge file: what is lent of the result, from place f to place t
+pub charge-lent
+    : (job res : List ℕ) (f t : ℕ)
+    → Sound job res
+    → f ≡ long res 16
+    → t ≡ long res 20
+    → (f ≡ 0 → ⊥)
+    → (f ≤ t) × (t ≤ length res) × FileSound (take (t - f) (drop f res))
+unfolding filePart
+charge-lent job res f t s e g n = let h = s .charge (λ z. n (e ∙ z)) in rw (e, g) (h .ordered, h .within, h .file)
 
 -- no charge file, and a charge file from place f to place t
 pub report-none

@@ -18,7 +18,6 @@ use Rattle.laws.specs.Codec.Rows.{HeaderSays, accepted-header, accepted-rows}
 use Rattle.laws.specs.Codec.Accepted.{fine}
 use Rattle.laws.specs.Codec.Sizes.{length-result}
 use Rattle.laws.specs.Codec.ResultBack.{ResultFits, HeaderTells, header-back, unfiled, filed, result-back}
-use Rattle.text.specs.Sections.{inside}
 use Rattle.report.specs.Read.{reportOf}
 use Rattle.report.specs.Sound.{OpsSound, LogSound, FileSound, ChargeSound, Sound}
 

@@ -6,7 +6,7 @@ use lib.ListN.{length, take, drop}
 use Rattle.spec.specs.Bytes.{byte, word, long}
 use Rattle.spec.specs.Job.{maxCapacity, maxPages, maxOps, headerSize, cAt, limitAt, usedAt, opCountAt, tableOffsetAt, opsOffsetAt, recordSize, pageSize, opSize, tableOffset, opsOffset}
 use Rattle.spec.specs.Decode.{headerOf}
-use Rattle.spec.specs.Result.{answerCountAt, lineCountAt, answersAt, logAt, fileAt, resultTotalAt, answerSize, lineSize, answersOffset, filePart}
+use Rattle.spec.specs.Result.{answerCountAt, lineCountAt, answersOffsetAt, logOffsetAt, fileOffsetAt, resultTotalAt, answerSize, lineSize, answersOffset, filePart}
 
 -- the operations, and an answer for each
 pub record OpsSound (job res : List ℕ) : Type 0 where
@@ -16,13 +16,13 @@ pub record OpsSound (job res : List ℕ) : Type 0 where
   pub count : word res answerCountAt ≡ word job opCountAt
   pub place : long job opsOffsetAt ≡ opsOffset (headerOf job)
   pub ops : long job opsOffsetAt + opSize * word job opCountAt ≤ length job
-  pub answers : long res answersAt + answerSize * word res answerCountAt ≤ length res
+  pub answers : long res answersOffsetAt + answerSize * word res answerCountAt ≤ length res
 
 -- the log: no more lines than there can be operations
 pub record LogSound (res : List ℕ) : Type 0 where
   pub top : answersOffset ≤ length res
   pub few : word res lineCountAt ≤ maxOps
-  pub log : long res logAt + lineSize * word res lineCountAt ≤ length res
+  pub log : long res logOffsetAt + lineSize * word res lineCountAt ≤ length res
 
 -- each of n pages of `size` bytes has room for its records
 pub record Counts (table : List ℕ) (size n : ℕ) : Type 0 where
@@ -40,11 +40,11 @@ pub record FileSound (b : List ℕ) : Type 0 where
 
 -- the charge file of a result, from its offset to the total
 pub record ChargeSound (res : List ℕ) : Type 0 where
-  pub ordered : long res fileAt ≤ long res resultTotalAt
+  pub ordered : long res fileOffsetAt ≤ long res resultTotalAt
   pub within : long res resultTotalAt ≤ length res
   pub file : FileSound (filePart res)
 
 pub record Sound (job res : List ℕ) : Type 0 where
   pub ops : OpsSound job res
   pub log : LogSound res
-  pub charge : (long res fileAt ≡ 0 → ⊥) → ChargeSound res
+  pub charge : (long res fileOffsetAt ≡ 0 → ⊥) → ChargeSound res

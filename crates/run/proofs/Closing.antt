@@ -1,15 +1,10 @@
 -- The turns are over and all operations are told: what closing asks is there, and what it writes is the job's result.
 use mathlib.Core.Path.{_≡_, sym, ap, _∙_}
-use mathlib.Core.Logic.{by-cases}
 use mathlib.Core.List.{List, _++_}
-use mathlib.Core.Option.{Option}
 use Prim.Native.Nat.{ℕ, zero, suc, _^_, _≤_, _<_}
 use native.Mathlib.Numerals.{add-one}
-use native.Mathlib.Decide.{ℕ-discrete}
 use native.Mathlib.Omega.{arith}
 use lib.ListN.{length, getD, drop}
-use Rattle.spec.specs.declared.Rec.{Rec}
-use Rattle.spec.specs.declared.Op.{Op}
 use Rattle.spec.specs.Code.{notYet}
 use Rattle.spec.specs.Decode.{jobOf}
 use Rattle.spec.specs.State.{State, gone}
@@ -19,7 +14,7 @@ use Rattle.spec.specs.Check.{workSize, resultSize}
 use Rattle.spec.specs.Claims.{stateAt}
 use Rattle.spec.specs.Outcome.{resultBytes}
 use Rattle.laws.specs.Room.{run-shaped}
-use Rattle.laws.specs.Turns.Says.{Says, isFound, isNone, isStored, isThere, isDeleted, isAbsent, isNoDepth, isNoPage}
+use Rattle.laws.specs.Turns.Sizes.{code-small}
 use Rattle.laws.specs.Turns.States.{stateAt-end, run-now}
 use Rattle.laws.specs.Turns.Whole.{Whole, end-whole}
 use Rattle.header.specs.declared.Header.{Header}
@@ -34,17 +29,6 @@ use Rattle.table.specs.Told.{Told, told, tellRow, tellRows}
 use Rattle.run.specs.Table.{Accepts, Running}
 use Rattle.run.proofs.Known.{proper, heads, ops-are, turns-are, depth-is, capacity-is, pages-are}
 
--- an answer's code is one of eight
-code-of : {op : Op} {a b : Option Rec} {k c : ℕ} → Says op a b k c → k < 256
-code-of (isFound r i h e) = omega arith
-code-of (isNone i h e) = omega arith
-code-of (isStored i h e) = omega arith
-code-of (isThere r i h e) = omega arith
-code-of (isDeleted r i h e) = omega arith
-code-of (isAbsent i h e) = omega arith
-code-of (isNoDepth i h e) = omega arith
-code-of (isNoPage i h e) = omega arith
-
 module _ {h : Header} {b : List ℕ} (a : Accepts h b) where
   abbrev s : State
   s = run (jobOf b)
@@ -57,9 +41,6 @@ module _ {h : Header} {b : List ℕ} (a : Accepts h b) where
 
   rows-are : length (s .rows) ≡ h .ops
   rows-are = whole .rows ∙ ops-are a
-
-  code-small : (i : ℕ) → rowOf s i .code < 256
-  code-small i = by-cases (ℕ-discrete (rowOf s i .code) notYet) (λ z. omega arith) (λ n. code-of (whole .past .right i n .0))
 
   moment-past : (i : ℕ) → (rowOf s i .code ≡ notYet → ⊥) → rowOf s i .moment < s .now
   moment-past i n = whole .past .right i n .1
@@ -86,7 +67,7 @@ module _ {h : Header} {b : List ℕ} (a : Accepts h b) where
           let w : workSize ≤ length (q .work) = omega (arith, shown .picture .long, t .rest .size) in
           rw (add-one i) at
           (one-told (omega (arith, rows-are)) (omega (arith, heads a .limits .ops)) w (λ n. omega (arith, moment-past i n, turns-few)) t
-          (tells (getD (s .rows) i gone) (getD (o .rows) i blankRow) i (q .result) (q .work) (row-is i l) (code-small i)))
+          (tells (getD (s .rows) i gone) (getD (o .rows) i blankRow) i (q .result) (q .work) (row-is i l) (code-small (jobOf b) (proper a .file) i)))
 
       telling : (i : ℕ) → i ≤ h .ops → TellingBy i (tellRows (o .rows) i (told x (o .work) 0))
       unfolding tellRows

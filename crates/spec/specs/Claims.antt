@@ -15,7 +15,7 @@ use Rattle.spec.specs.declared.Stage.the-variants.{Done}
 use Rattle.spec.specs.Basics.{if, Has}
 use Rattle.spec.specs.Bytes.{AreBytes}
 use Rattle.spec.specs.Code.{notYet, noDepth, noPage}
-use Rattle.spec.specs.File.{findIn, contents}
+use Rattle.spec.specs.File.{File, findIn, contents}
 use Rattle.spec.specs.Job.{Job, fileJob, noOp}
 use Rattle.spec.specs.Decode.{jobOf}
 use Rattle.spec.specs.State.{State}
@@ -56,7 +56,7 @@ times i (h ∷ hs) = if (eqb (h .op) i) (suc (times i hs)) (times i hs)
 abbrev pub Before : Line → Line → Type 0
 Before a b = (a .moment < b .moment) ⊎ ((a .moment ≡ b .moment) × (a .op < b .op))
 
--- of a result: the line of its log at place p, and an operation's answer; the operation of that line is the job's
+-- of a result: the line of its log at place p, and the answer of operation i; and the job's operation that line p names
 abbrev pub noLine : Line
 noLine = record { moment = 0; op = 0 }
 
@@ -77,6 +77,10 @@ fed j r n = replay (j .ops) (r .answers) (take n (r .log)) (contents (j .file))
 abbrev pub Accepted : List ℕ → Type 0
 Accepted b = jobFault b ≡ none
 
+-- the bytes b are accepted as a job by themselves, and as a job they are the file f
+abbrev pub IsFile : List ℕ → File → Type 0
+IsFile b f = Accepted b × (jobOf b ≡ fileJob f)
+
 -- The turn list of the job j is explained by the log of the result r, on the plain list.
 pub record Explained (j : Job) (r : Result) : Type 0 where
   -- an answer for each operation
@@ -96,8 +100,8 @@ pub record Explained (j : Job) (r : Result) : Type 0 where
   pub sorted : (p q : ℕ) → p < q → q < length (r .log) → Before (lineAt r p) (lineAt r q)
   -- "At the end a call with its charge is in it exactly when the file after the last turn .. holds them, in whatever order"
   pub held : (c : Rec) → Has c (fed j r (length (r .log)) .list) ↔ Has c (contents (run j .file))
-  -- "a charge file in the result is that file": its bytes are accepted as a job by themselves, and as a job they are that file
-  pub charged : (f : List ℕ) → r .file ≡ some f → Accepted f × (jobOf f ≡ fileJob (run j .file))
+  -- "a charge file in the result is that file"
+  pub charged : (b : List ℕ) → r .file ≡ some b → IsFile b (run j .file)
   -- "no call twice": in the list and in the file, at any time
   pub listOnce : (n : ℕ) → NoneTwice (fed j r n .list)
   pub fileOnce : (t : ℕ) → t ≤ length (j .turns) → NoneTwice (contents (stateAt j t .file))

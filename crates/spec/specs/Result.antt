@@ -80,14 +80,14 @@ lineCountAt = 4
 abbrev pub unendedAt : ℕ
 unendedAt = 6
 
-abbrev pub answersAt : ℕ
-answersAt = 8
+abbrev pub answersOffsetAt : ℕ
+answersOffsetAt = 8
 
-abbrev pub logAt : ℕ
-logAt = 12
+abbrev pub logOffsetAt : ℕ
+logOffsetAt = 12
 
-abbrev pub fileAt : ℕ
-fileAt = 16
+abbrev pub fileOffsetAt : ℕ
+fileOffsetAt = 16
 
 abbrev pub resultTotalAt : ℕ
 resultTotalAt = 20
@@ -178,19 +178,19 @@ lineOf b = record { moment = word b 0; op = word b 2 }
 
 -- the sections of a result, where its header says that they begin
 unfoldable pub answersIn : List ℕ → List Told
-answersIn b = map answerOf (parts (word b answerCountAt) answerSize (drop (long b answersAt) b))
+answersIn b = map answerOf (parts (word b answerCountAt) answerSize (drop (long b answersOffsetAt) b))
 
 unfoldable pub logIn : List ℕ → List Line
-logIn b = map lineOf (parts (word b lineCountAt) lineSize (drop (long b logAt) b))
+logIn b = map lineOf (parts (word b lineCountAt) lineSize (drop (long b logOffsetAt) b))
 
 -- the charge file stands from its offset to the total; "there is no charge file and its offset is 0"
 unfoldable pub filePart : List ℕ → List ℕ
-filePart b = take (long b resultTotalAt - long b fileAt) (drop (long b fileAt) b)
+filePart b = take (long b resultTotalAt - long b fileOffsetAt) (drop (long b fileOffsetAt) b)
 
 unfoldable pub fileIn : List ℕ → Option (List ℕ)
-fileIn b = if (eqb (long b fileAt) 0) none (some (filePart b))
+fileIn b = if (eqb (long b fileOffsetAt) 0) none (some (filePart b))
 
--- What any bytes say, read as a result. Total, as the reading of a job is; what stands behind the total is not read.
+-- What any bytes say, read as a result. Total, as the reading of a job is; other bytes may stand behind those of a result.
 unfoldable pub readResult : List ℕ → Result
 readResult b =
     record {

@@ -93,10 +93,10 @@ module _ (b : List ℕ) (n : ℕ) (more : longest < n) (within : n ≤ length b)
   unfolding jobFault firstRow
   fault-kept =
       rw (short-kept, version-kept, limit-kept)
-      (goes-on 1 _ _ _
+      (goes-on _ _ _ _
       (λ a.
-      goes-on 2 _ _ _
-      (λ v. goes-on 3 _ _ _ (λ e. let limits = limits-said b .0 e in rw (offset-kept limits) (goes-on 4 _ _ _ (λ o. absurd (offset-wrong limits o)))))))
+      goes-on _ _ _ _
+      (λ v. goes-on _ _ _ _ (λ e. let limits = limits-said b .0 e in rw (offset-kept limits) (goes-on _ _ _ _ (λ o. absurd (offset-wrong limits o)))))))
 
   -- so both are refused alike
   fault : (o : Option Fault) → jobFault b ≡ o → (f : Fault) × (jobFault b ≡ some f)

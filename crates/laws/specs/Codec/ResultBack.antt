@@ -11,7 +11,7 @@ use Rattle.spec.specs.Basics.{if, each, Each}
 use Rattle.spec.specs.Bytes.{byte, word, long, two, four, parts}
 use Rattle.spec.specs.Job.{maxOps}
 use Rattle.spec.specs.Decode.{headerOf}
-use Rattle.spec.specs.Result.{Told, Line, Result, answerBytes, lineBytes, logOffset, fileOffset, offsetField, fileBytes, resultHeader, encodeResult, answerOf, lineOf, answersIn, logIn, filePart, fileIn, readResult}
+use Rattle.spec.specs.Result.{Told, Line, Result, resultVersionAt, answerCountAt, lineCountAt, unendedAt, answersOffsetAt, logOffsetAt, fileOffsetAt, resultTotalAt, answersOffset, answerBytes, lineBytes, logOffset, fileOffset, offsetField, fileBytes, resultHeader, encodeResult, answerOf, lineOf, answersIn, logIn, filePart, fileIn, readResult}
 use Rattle.spec.specs.Check.{jobFault}
 use Rattle.laws.specs.Tools.{each-imp}
 use Rattle.laws.specs.Codec.Tools.{every}
@@ -24,6 +24,7 @@ use Rattle.laws.specs.Codec.Sizes.{length-answer, length-line, length-re
 
 -- the numbers of a result fit their fields, its total is its length, and its charge file is accepted as a job
 pub record ToldFits (a : Told) : Type 0 where
+  pub code : a .code < 2 ^ 8
   pub used : a .used < 2 ^ 16
   pub charge : a .charge < 2 ^ 32
 
@@ -71,20 +72,20 @@ file-length (some f) h = let s = accepted-header f (h f refl) in omega (arith, s
 
 -- the header of the bytes b is that of the result r
 pub record HeaderTells (b : List ℕ) (r : Result) : Type 0 where
-  pub version : word b 0 ≡ r .version
-  pub answerCount : word b 2 ≡ length (r .answers)
-  pub lineCount : word b 4 ≡ length (r .log)
-  pub unended : word b 6 ≡ r .unended
-  pub answers : long b 8 ≡ 24
-  pub log : long b 12 ≡ logOffset (length (r .answers))
-  pub file : long b 16 ≡ offsetField (r .file) (fileOffset (length (r .answers)) (length (r .log)))
-  pub total : long b 20 ≡ r .total
+  pub version : word b resultVersionAt ≡ r .version
+  pub answerCount : word b answerCountAt ≡ length (r .answers)
+  pub lineCount : word b lineCountAt ≡ length (r .log)
+  pub unended : word b unendedAt ≡ r .unended
+  pub answers : long b answersOffsetAt ≡ answersOffset
+  pub log : long b logOffsetAt ≡ logOffset (length (r .answers))
+  pub file : long b fileOffsetAt ≡ offsetField (r .file) (fileOffset (length (r .answers)) (length (r .log)))
+  pub total : long b resultTotalAt ≡ r .total
 
 -- the charge file f stands in the bytes b of a result, from its offset to the total
 pub record Filed (b f : List ℕ) : Type 0 where
-  pub there : long b 16 ≡ 0 → ⊥
-  pub ordered : long b 16 ≤ long b 20
-  pub within : long b 20 ≤ length b
+  pub there : long b fileOffsetAt ≡ 0 → ⊥
+  pub ordered : long b fileOffsetAt ≤ long b resultTotalAt
+  pub within : long b resultTotalAt ≤ length b
   pub part : filePart b ≡ f
 
 module _ (m : ℕ) (r : Result) (most : m ≤ maxOps) (fits : ResultFits m r) (post : List ℕ) where
@@ -168,7 +169,7 @@ module _ (m : ℕ) (r : Result) (most : m ≤ maxOps) (fits : ResultFits m r) (p
       (section-back lineOf lineBytes 4 (r .log) (H ++ A) (F ++ post) length-line (each-imp line-back (fits .log)) to-log (header-first ∙ simp append-assoc))
 
   -- no charge file, and a charge file: its bytes stand from its offset to the total
-  pub unfiled : r .file ≡ none → long bytes 16 ≡ 0
+  pub unfiled : r .file ≡ none → long bytes fileOffsetAt ≡ 0
   unfolding offsetField
   unfiled e = header-back .file ∙ ap (λ o. offsetField o fileStart) e
 
@@ -184,9 +185,9 @@ module _ (m : ℕ) (r : Result) (most : m ≤ maxOps) (fits : ResultFits m r) (p
   pub filed : (f : List ℕ) → r .file ≡ some f → Filed bytes f
   unfolding filePart offsetField fileBytes fileOffset logOffset
   filed f e =
-      let at : long bytes 16 ≡ fileStart = header-back .file ∙ ap (λ o. offsetField o fileStart) e in
+      let at : long bytes fileOffsetAt ≡ fileStart = header-back .file ∙ ap (λ o. offsetField o fileStart) e in
       let n : length F ≡ length f = ap (λ o. length (fileBytes o)) e in
-      let end : long bytes 20 ≡ fileStart + length f = header-back .total ∙ fits .total ∙ ap (λ k. fileStart + k) n in
+      let end : long bytes resultTotalAt ≡ fileStart + length f = header-back .total ∙ fits .total ∙ ap (λ k. fileStart + k) n in
       record {
         there = λ z. omega arith;
         ordered = omega arith;
@@ -196,8 +197,8 @@ module _ (m : ℕ) (r : Result) (most : m ≤ maxOps) (fits : ResultFits m r) (p
 
   file-back : (o : Option (List ℕ)) → r .file ≡ o → fileIn bytes ≡ o
   unfolding fileIn if
-  file-back none e = rw (eq-eqb (long bytes 16) 0 (unfiled e))
-  file-back (some f) e = let k = filed f e in rw (ne-eqb (long bytes 16) 0 (k .there), k .part)
+  file-back none e = rw (eq-eqb (long bytes fileOffsetAt) 0 (unfiled e))
+  file-back (some f) e = let k = filed f e in rw (ne-eqb (long bytes fileOffsetAt) 0 (k .there), k .part)
 
   -- WHAT IS WRITTEN COMES BACK
   pub result-back : readResult bytes ≡ r

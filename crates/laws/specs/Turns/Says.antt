@@ -1,5 +1,5 @@
 -- What an answer, code and charge, says of an operation's call: what was held of it before the answer's moment, a, and after it, b.
-use Prim.Native.Nat.{ℕ}
+use Prim.Native.Nat.{ℕ, _<_}
 use mathlib.Core.Path.{_≡_, refl}
 use mathlib.Core.Logic.{_⊎_, inl, inr, ⊎-elim}
 use mathlib.Core.Option.{Option, none, some}
@@ -19,6 +19,17 @@ pub data Says (op : Op) (a b : Option Rec) : ℕ → ℕ → Type 0 where
   isAbsent : op .kind ≡ Delete → a ≡ none → b ≡ a → Says op a b absent 0
   isNoDepth : op .kind ≡ Insert → a ≡ none → b ≡ a → Says op a b noDepth 0
   isNoPage : op .kind ≡ Insert → a ≡ none → b ≡ a → Says op a b noPage 0
+
+-- a code is one of eight
+pub says-code : {op : Op} {a b : Option Rec} {k c : ℕ} → Says op a b k c → k < 256
+says-code (isFound r i j e) = omega arith
+says-code (isNone i j e) = omega arith
+says-code (isStored i j e) = omega arith
+says-code (isThere r i j e) = omega arith
+says-code (isDeleted r i j e) = omega arith
+says-code (isAbsent i j e) = omega arith
+says-code (isNoDepth i j e) = omega arith
+says-code (isNoPage i j e) = omega arith
 
 -- the two codes that change what is held
 abbrev pub Changes : ℕ → Type 0

@@ -1,4 +1,4 @@
--- How long the log is, and how many turns an operation has used: what the result's writer has to fit in.
+-- How long the log is, how many turns an operation has used, and how large its code is: what the result's writer has to fit in.
 use Prim.Native.Nat.{ℕ, zero, suc, _+_, _<_, _≤_}
 use mathlib.Core.Path.{_≡_, refl, sym, ap, _∙_}
 use mathlib.Core.Logic.{by-cases}
@@ -18,6 +18,7 @@ use Rattle.spec.specs.Proper.{FileOk}
 use Rattle.spec.specs.Claims.{times}
 use Rattle.laws.specs.Tools.{if-case, first, rest, each-imp, set-all}
 use Rattle.laws.specs.Turns.Rows.{step-case, steps-keep, first-row}
+use Rattle.laws.specs.Turns.Says.{says-code}
 use Rattle.laws.specs.Turns.States.{run-now}
 use Rattle.laws.specs.Turns.Whole.{Whole, end-whole}
 use Rattle.laws.specs.Turns.Log.{times-nil, times-cons, times-skip, log-once, log-other, log-rows}
@@ -107,3 +108,7 @@ module _ (j : Job) (ok : FileOk (j .file)) where
 
   pub log-le : length (result j .log) ≤ length (j .ops)
   log-le = omega (arith, log-count, answered-le (run j) (length (j .ops)))
+
+  -- a code has a byte
+  pub code-small : (i : ℕ) → rowOf (run j) i .code < 256
+  code-small i = by-cases (ℕ-discrete (rowOf (run j) i .code) notYet) (λ z. omega arith) (λ n. says-code (w .past .right i n .0))

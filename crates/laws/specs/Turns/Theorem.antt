@@ -1,10 +1,11 @@
--- DEMAND 3: every turn list of a job whose file is proper is explained by the log of its result, on the plain list.
+-- DEMAND 3: every turn list of a job whose file is proper is explained by the log of its result, on the plain list. (That its charge file is that
+-- file is a matter of bytes: ReadBack.)
 use Prim.Native.Nat.{ℕ, suc, _<_, _≤_}
 use mathlib.Core.Path.{_≡_, refl, sym, ap, _∙_, subst}
 use mathlib.Core.Logic.{_⊎_, ⊎-elim, by-cases}
 use mathlib.Core.List.{List, map}
 use mathlib.Core.Bool.{Bool, true, true≢false, false≢true}
-use mathlib.Core.Option.{Option, none, some, Option·none-ne-some}
+use mathlib.Core.Option.{none, some}
 use native.Mathlib.Omega.{arith}
 use native.Mathlib.Decide.{ℕ-discrete, decLt}
 use lib.ListN.{length, getD, length-map}
@@ -14,16 +15,14 @@ use Rattle.spec.specs.declared.Kind.the-variants.{Search}
 use Rattle.spec.specs.declared.Stage.{Stage}
 use Rattle.spec.specs.declared.Stage.the-variants.{NotBegun, ReadPage, Reread, Lock, Held, Split, Done}
 use Rattle.spec.specs.File.{File, findIn, contents}
-use Rattle.spec.specs.Job.{Job, fileJob, noOp}
-use Rattle.spec.specs.Decode.{jobOf}
+use Rattle.spec.specs.Job.{Job, noOp}
 use Rattle.spec.specs.Code.{notYet, noDepth, noPage}
 use Rattle.spec.specs.State.{State}
 use Rattle.spec.specs.Run.{rowOf, stageOf, idle, run}
 use Rattle.spec.specs.Result.{Told, toldOf, logOf, resultOf, result}
 use Rattle.spec.specs.PlainList.{replyOf, Replay, replay}
 use Rattle.spec.specs.Proper.{NoneTwice, FileOk}
-use Rattle.spec.specs.Claims.{stateAt, FirstTurn, Ended, Waits, times, lineAt, answerAt, opAt, fed, Accepted, Explained}
-use Rattle.laws.specs.Tools.{if-case}
+use Rattle.spec.specs.Claims.{stateAt, FirstTurn, Ended, Waits, times, lineAt, answerAt, opAt, fed, IsFile, Explained}
 use Rattle.laws.specs.Turns.Records.{same-has}
 use Rattle.laws.specs.Turns.Rows.{stage-row, moves-row, code-row}
 use Rattle.laws.specs.Turns.Progress.{progress}
@@ -67,7 +66,7 @@ module _ (j : Job) (ok : FileOk (j .file)) where
   unfolding answerAt result toldOf
   code-at i = ap (λ (t : Told). t .code) (answer-at (run j) i)
 
-  answer-count : length (result j .answers) ≡ length (j .ops)
+  pub answer-count : length (result j .answers) ≡ length (j .ops)
   unfolding result resultOf
   answer-count = length-map (run j .rows) toldOf ∙ w .rows
 
@@ -166,8 +165,7 @@ module _ (j : Job) (ok : FileOk (j .file)) where
   unfolding fed answerAt
   all-refused p l c = refused-at (j .ops) (result j .answers) (result j .log) (contents (j .file)) p (replayed j ok .0) l c
 
-  -- (`charged` is shown where bytes are: ReadBack)
-  pub explained : ((f : List ℕ) → result j .file ≡ some f → Accepted f × (jobOf f ≡ fileJob (run j .file))) → Explained j (result j)
+  pub explained : ((b : List ℕ) → result j .file ≡ some b → IsFile b (run j .file)) → Explained j (result j)
   explained charged =
       record {
         count = answer-count;

@@ -1,8 +1,7 @@
 use mathlib.Core.Path.{sym, _∙_}
 use native.Mathlib.Omega.{arith}
-use Rattle.spec.specs.Result.{filePart}
 use Rattle.wire.specs.WroteLaws.{then, same, wider}
-use Rattle.report.proofs.Reading.{report-none, report-some}
+use Rattle.report.proofs.Reading.{charge-lent, report-none, report-some}
 use borrow.Author.Needs.{needs}
 use Rattle.report.proofs.report.Statement.{statement}
 use Rattle.report.proofs.report.Tie as tie
@@ -43,30 +42,22 @@ sub-file-lines : tie.Need-sub-file-lines
 sub-file-lines c =
     let a = c .before .before .before .before .before .before .before .before .before .before .before .before .before .before .before .before .before .before .before in
     let f = c .before .before .before .u32-at in
-    let h = a .pre .1 .charge (λ z. c .before .before .if1 .left (f .ensures ∙ z)) in
-    omega (arith, h .ordered, f .ensures, c .before .u32-at2 .ensures)
+    charge-lent (a .args .job .now) (a .args .result .now) _ _ (a .pre .1) (f .ensures) (c .before .u32-at2 .ensures) (c .before .before .if1 .left) .0
 
 part-file-lines-start : tie.Need-part-file-lines-start
-part-file-lines-start c =
-    let a = c .before .before .before .before .before .before .before .before .before .before .before .before .before .before .before .before .before .before .before in
-    let f = c .before .before .before .u32-at in
-    let h = a .pre .1 .charge (λ z. c .before .before .if1 .left (f .ensures ∙ z)) in
-    omega (arith, h .ordered, f .ensures, c .before .u32-at2 .ensures)
+part-file-lines-start c = sub-file-lines c
 
 part-file-lines-end : tie.Need-part-file-lines-end
 part-file-lines-end c =
     let a = c .before .before .before .before .before .before .before .before .before .before .before .before .before .before .before .before .before .before .before in
     let f = c .before .before .before .u32-at in
-    let h = a .pre .1 .charge (λ z. c .before .before .if1 .left (f .ensures ∙ z)) in
-    omega (arith, h .within, c .before .u32-at2 .ensures)
+    charge-lent (a .args .job .now) (a .args .result .now) _ _ (a .pre .1) (f .ensures) (c .before .u32-at2 .ensures) (c .before .before .if1 .left) .1
 
 file-lines-requires : tie.Need-file-lines-requires
-unfolding filePart
 file-lines-requires c κs =
     let a = c .before .before .before .before .before .before .before .before .before .before .before .before .before .before .before .before .before .before .before .before in
     let f = c .before .before .before .before .u32-at in
-    let h = a .pre .1 .charge (λ z. c .before .before .before .if1 .left (f .ensures ∙ z)) in
-    (omega arith, rw (f .ensures, c .before .before .u32-at2 .ensures) (h .file))
+    (omega arith, charge-lent (a .args .job .now) (a .args .result .now) _ _ (a .pre .1) (f .ensures) (c .before .before .u32-at2 .ensures) (c .before .before .before .if1 .left) .2)
 
 same-length-2 : tie.Need-same-length-2
 same-length-2 c = search needs
