@@ -6,7 +6,7 @@
  * chargefile_check tells whether the bytes of a job are sound; chargefile_run checks them, runs the
  * job turn by turn and writes its result. docs/FORMAT.md has every byte of a job and of a result.
  *
- * Proved of both calls, for every input (crates/chargefile/src/lib.rt, crates/run/specs/Call.antt):
+ * Proved, for every input (crates/chargefile/specs/Called.antt, crates/run/specs/Call.antt):
  *
  *   - Any bytes may be handed over as a job. A call always ends, with a result or with one numbered
  *     refusal.
@@ -14,7 +14,10 @@
  *     (Number and place of the refusal are returned by value.)
  *   - The job's own bytes are never written.
  *   - Refusal 0 is told exactly when no row of the refusal table holds (for a check, 1 to 10).
- *   - A job that meets no row of the refusal table is run, and the log explains every answer.
+ *   - A job that meets no row of the refusal table is run. What then stands in the result buffer is
+ *     explained by its own log: the operations done one at a time in the log's order, on a plain
+ *     list of calls, get the same answers and leave the same calls; and its charge file is accepted
+ *     as a job by itself.
  *
  * The caller's part, which no proof of the library can see to:
  *

@@ -1,6 +1,7 @@
 /*
- * "Nothing lent is written": job E refused for every reason that there is, called from C and from
- * C++, and every byte of what it is lent and of the job itself compared with what was there before.
+ * "Nothing lent is written": job E refused with every number, and with each place of 11, called from
+ * C and from C++, and every byte of what it is lent and of the job itself compared with what was
+ * there before.
  */
 #include <string.h>
 

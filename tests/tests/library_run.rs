@@ -105,8 +105,8 @@ fn random_jobs() {
     }
 }
 
-/// The result is read from the buffer by what its own header says: its log explains every answer, and its charge file is a job by itself that
-/// holds what the plain list holds.
+/// What is read from the buffer, up to the total in its header: its log explains every answer, and its charge file is a job by itself that holds
+/// what the plain list holds.
 #[test]
 fn the_buffer_explains_the_job() {
     let mut files = 0;

@@ -53,7 +53,7 @@ pub extern "C" fn chargefile_check(job: &[u8]) -> CallOutcome
     handed(o)
 }
 
-// A job checked, run, and its result written. `rows` has a row for each operation, `memory` at least 24,576 bytes.
+// A job checked, run, and its result written. Any lengths may be lent: too small a result buffer, too few rows or too little memory is refused 11.
 #[no_mangle]
 pub extern "C" fn chargefile_run(
     job: &[u8],

@@ -1,4 +1,4 @@
--- Demand 3: every turn list of a job whose file is proper is explained by its log. The theorem is in Turns/Theorem.
+-- Demand 3: every turn list of a job whose file is proper is explained by its log. The theorem is in Turns/Theorem; what it leaves to the bytes, in ReadBack.
 -- what is known of keys, records and pages, and of a split
 pub mod Prefix
 pub mod Records

@@ -43,7 +43,7 @@ pub record Written (b t : List ℕ) (r : Outcome) : Type 0 where
   pub explained : Explained (jobOf b) (readResult t)
 
 -- The whole outcome for the bytes b, accepted or refused: what is answered, and the result buffer, the table and the memory afterwards, which
--- were s, x and w; and for an accepted job demand 3 of the result that is now in the buffer
+-- were s, x and w; and where no row of the refusal table holds, so that the job is run, demand 3 of the result that is now in the buffer
 pub record Settled (b s t : List ℕ) (x y : List Row) (w u : List ℕ) (r : Outcome) : Type 0 where
   pub answer : r ≡ outcome (lent s x w) b
   pub result : t ≡ bufferAfter (lent s x w) b s
