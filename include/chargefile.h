@@ -15,9 +15,9 @@
  *   - The job's own bytes are never written.
  *   - Refusal 0 is told exactly when no row of the refusal table holds (for a check, 1 to 10).
  *   - A job that meets no row of the refusal table is run. What then stands in the result buffer is
- *     explained by its own log: the operations done one at a time in the log's order, on a plain
- *     list of calls, get the same answers and leave the same calls; and its charge file is accepted
- *     as a job by itself.
+ *     explained by its own log: the answered operations done one at a time in the log's order, on a
+ *     plain list of calls, get the same answers and leave the calls that the file then holds. Its
+ *     charge file, where there is one, is that file, and is accepted as a job by itself.
  *
  * The caller's part, which no proof of the library can see to:
  *
