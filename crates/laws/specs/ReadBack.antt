@@ -2,7 +2,7 @@
 use Prim.Native.Nat.{ℕ, suc, _^_, _<_, _≤_}
 use mathlib.Core.Path.{_≡_, sym, _∙_}
 use mathlib.Core.List.{List, [], _∷_, _++_, map}
-use mathlib.Core.Option.{none, some, Option·none-ne-some}
+use mathlib.Core.Option.{none, some, Option·none-ne-some, Option·some-injective}
 use native.Mathlib.Omega.{arith}
 use lib.ListN.{length, getD, length-map}
 use borrow.Author.Tests.{eqb-true}
@@ -71,9 +71,6 @@ unfolding result resultOf fileLeft
 filed-ended j f =
     if-case (λ o. o ≡ some f → countUnder (run j .rows) ≡ 0) (λ t e. eqb-true _ _ t) (λ t e. absurd (Option·none-ne-some f e))
 
-some-same : {A : Type 0} {x y : A} → some x ≡ some y → x ≡ y
-some-same e = cc
-
 module _ (b : List ℕ) (bytes : AreBytes b) (accepted : jobFault b ≡ none) where
   abbrev j : Job
   j = jobOf b
@@ -98,7 +95,7 @@ module _ (b : List ℕ) (bytes : AreBytes b) (accepted : jobFault b ≡ none) wh
       fits x n = narrow j proper .0 x
 
       is-that : encodeFile (run j .file) ≡ f
-      is-that = some-same (sym (final-file j ended) ∙ e)
+      is-that = Option·some-injective _ _ (sym (final-file j ended) ∙ e)
 
   -- the numbers of the result fit their fields
   answers-fit : Each ToldFits (map toldOf (run j .rows))
