@@ -1,9 +1,10 @@
-//! `chargelog` itself: every vector on its standard input, and what it prints; input in pieces, and input and output that fail.
+//! `chargelog` itself: every vector on its standard input, and what it prints; input in pieces, input and output that fail, arguments. It ends with
+//! status 0 whatever happens, since a program of Rattle has no other; what went wrong it says on standard error.
 
 use std::fs::{self, File};
 use std::io::Write;
 use std::path::{Path, PathBuf};
-use std::process::{Command, Stdio};
+use std::process::{Command, Output, Stdio};
 use std::thread;
 use std::time::Duration;
 
@@ -16,11 +17,18 @@ fn program() -> Command {
     Command::new(Path::new(env!("CARGO_MANIFEST_DIR")).join("../target/bin/chargelog"))
 }
 
-/// What `chargelog` prints for a job that is handed over in pieces, with a pause between two.
+/// That it ended with status 0, and said this on standard error.
+fn ended_saying(output: &Output, said: &str) {
+    assert_eq!(output.status.code(), Some(0));
+    assert_eq!(String::from_utf8_lossy(&output.stderr), said);
+}
+
+/// What `chargelog` prints for a job that is handed over in pieces, with a pause between two. It says nothing on standard error.
 fn chargelog_in_pieces(pieces: &[&[u8]]) -> Vec<u8> {
     let mut child = program()
         .stdin(Stdio::piped())
         .stdout(Stdio::piped())
+        .stderr(Stdio::piped())
         .spawn()
         .expect("chargelog, as rt builds it");
     let mut input = child.stdin.take().expect("its standard input");
@@ -32,7 +40,9 @@ fn chargelog_in_pieces(pieces: &[&[u8]]) -> Vec<u8> {
         let _ = input.write_all(piece);
     }
     drop(input);
-    child.wait_with_output().expect("what it printed").stdout
+    let output = child.wait_with_output().expect("what it printed");
+    ended_saying(&output, "");
+    output.stdout
 }
 
 fn chargelog(job: &[u8]) -> Vec<u8> {
@@ -86,7 +96,7 @@ fn input_that_cannot_be_read_is_said() {
         .output()
         .expect("what it said");
     assert_eq!(output.stdout, b"");
-    assert_eq!(output.stderr, b"chargelog: standard input cannot be read\n");
+    ended_saying(&output, "chargelog: standard input cannot be read\n");
 }
 
 #[test]
@@ -97,8 +107,19 @@ fn output_that_cannot_be_written_is_said() {
         .stdout(full.expect("a device that takes nothing"))
         .output()
         .expect("what it said");
-    assert_eq!(
-        output.stderr,
-        b"chargelog: standard output cannot be written\n"
-    );
+    ended_saying(&output, "chargelog: standard output cannot be written\n");
+}
+
+#[test]
+fn an_argument_is_told_how_the_program_is_used() {
+    let job = folder().join("marked-b.job");
+    for argument in ["--help", job.to_str().expect("a path in words"), ""] {
+        let output = program()
+            .arg(argument)
+            .stdin(File::open(&job).expect("job E"))
+            .output()
+            .expect("what it said");
+        assert_eq!(output.stdout, b"");
+        ended_saying(&output, "usage: chargelog < JOB\n");
+    }
 }

@@ -1,4 +1,4 @@
-// Reads a job from standard input, runs it, and prints what the document says.
+// Reads a job from standard input, runs it, and prints answers, log and pages, or the refusal.
 use print::Printed;
 ghost use Prim.Native.Nat.{_≤_};
 ghost use lib.ListN.{length};
@@ -53,7 +53,7 @@ fn show(job: &[u8]) {
 
 // No job is longer than 53,280 bytes. One byte more already decides every refusal: the length is then not the total (refusal 4, place 28),
 // unless a lower row or a lower place holds of the header, whatever follows. (laws: `Codec/Longest.front-decides`)
-fn main() {
+fn print_job() {
     let mut job = [0u8; 53281];
     let i = read_job(&mut job);
     match i {
@@ -61,5 +61,15 @@ fn main() {
         Input::Failed => {
             io::write_all(2, b"chargelog: standard input cannot be read\n");
         }
+    }
+}
+
+// A program of Rattle has no exit status, so what went wrong is said on standard error. It is said there too how the program is used, where it is
+// given an argument: a site may expect to name a file. (The program's own name counts as one.)
+fn main() {
+    if os::arg_count() > 1 {
+        io::write_all(2, b"usage: chargelog < JOB\n");
+    } else {
+        print_job();
     }
 }

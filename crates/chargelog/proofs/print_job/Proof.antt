@@ -2,8 +2,8 @@ use mathlib.Core.Path.{sym}
 use lib.Seq.{length-take-le}
 use Rattle.chargelog.proofs.Laws.{input-within}
 use borrow.Author.Needs.{needs}
-use Rattle.chargelog.proofs.main.Statement.{statement}
-use Rattle.chargelog.proofs.main.Tie as tie
+use Rattle.chargelog.proofs.print_job.Statement.{statement}
+use Rattle.chargelog.proofs.print_job.Tie as tie
 
 slice-aggregate-read-job : tie.Need-slice-aggregate-read-job
 slice-aggregate-read-job c = search needs
@@ -38,8 +38,8 @@ returns c = search needs
 returns-2 : tie.Need-returns-2
 returns-2 c = search needs
 
-pub main-spec : {M : Type 1} → statement M
-main-spec =
+pub print-job-spec : {M : Type 1} → statement M
+print-job-spec =
     tie.close
     (tie.spec
     slice-aggregate-read-job

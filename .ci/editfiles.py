@@ -1,0 +1,60 @@
+"""Edit files: each says in words what is wrong, and then which texts of a crate's files are replaced by which.
+
+    refused at: FILE THEOREM      (of a wrong definition: a place where the theorems must refuse it)
+    file: src/lib.rt              (holds for the replacements after it)
+    old: a text that the file has once
+    new: what is put in its place
+"""
+import pathlib, sys
+from collections import namedtuple
+
+ROOT = pathlib.Path(__file__).resolve().parent.parent
+
+# crate: the one that is changed; places: where it must be refused; pairs: its replacements (file, old, new)
+Edit = namedtuple("Edit", "name crate places pairs")
+
+
+def read(crate, path):
+    places, pairs, file, old = [], [], None, None
+    for line in path.read_text().splitlines():
+        if line.startswith("refused at: "):
+            places.append(line[12:].split())
+        elif line.startswith("file: "):
+            file = line[6:]
+        elif line.startswith("old: "):
+            old = line[5:]
+        elif line.startswith("new:"):
+            pairs.append((file, old, line[5:]))
+    return Edit(path.stem, crate, places, pairs)
+
+
+def must_fail():
+    """Those that rt ci tries, each with its whole crate."""
+    return [read(path.parent.parent.name, path) for path in sorted((ROOT / "crates").glob("*/must-fail/*.edit"))]
+
+
+def wrong_programs():
+    """Those that .ci/wrong tries, each with what it touches."""
+    return [read(path.parent.name, path) for path in sorted((ROOT / "tests/edits").glob("*/*.edit"))]
+
+
+def wrong_definitions():
+    """Those that .ci/edits puts to the theorems."""
+    return [read("spec", path) for path in sorted((ROOT / "tests/edits").glob("*.edit"))]
+
+
+def misfit(edit):
+    """Why the edit cannot be made, or None."""
+    for file, old, _ in edit.pairs:
+        path = ROOT / "crates" / edit.crate / (file or "")
+        times = path.read_text().count(old) if path.is_file() and old else 0
+        if times != 1:
+            return f"'{old}' is in {file} {times} times"
+    return None if edit.pairs else "it replaces nothing"
+
+
+def need_fit(edits):
+    """Ends the program where an edit cannot be made, so that no text is replaced twice or not at all."""
+    misfits = [f"{edit.crate}/{edit.name}" for edit in edits if misfit(edit)]
+    if misfits:
+        sys.exit(f"these edits do not fit: {' '.join(misfits)}")
