@@ -60,7 +60,7 @@ fn hotel() -> Job {
         // two still wait.
         &[0, 0, 0, 0, 1, 2],
         // It unlocks page 1, and delete 42 gets it; but the call's entry now
-        // names page 3, so it lets page 1 go.
+        // names page 3, so it releases page 1.
         &[0, 2, 2, 1, 2],
         // Now each has a page to itself.
         &rounds(&[1, 2], 5),
@@ -92,8 +92,8 @@ fn school() -> Job {
         &[0, 0][..],
         // Insert 11 reads its entry and locks page 1; delete 9 comes too late.
         &[1, 1, 2],
-        // (c), (d), the new page, entries 2 and 3. Entry 3 is the call's own:
-        // from now on it is stored.
+        // It verifies, decides, writes the new page and entries 2 and 3. Entry
+        // 3 is the call's own: from now on it is stored.
         &[1, 1, 1, 1, 1],
         // The delete waits, and nobody gets another turn.
         &[2],
@@ -110,8 +110,9 @@ fn stale() -> Job {
     let turns = [
         // Both searches read their entries: page 1.
         &[1, 2][..],
-        // Insert 4 splits page 1: (a) to (d), page 2 written, entry 2 changed
-        // on turn 7, entry 3 on turn 8, page 2 unlocked.
+        // Insert 4 splits page 1: it reads its entry, locks, verifies, decides,
+        // writes page 2, changes entry 2 on turn 7 and entry 3 on turn 8, and
+        // unlocks page 2.
         &[0, 0, 0, 0, 0, 0, 0, 0],
         // Delete 1 works on page 2 from beginning to end, and a search that
         // begins after it finds nothing.
