@@ -19,6 +19,7 @@ pub fn examples() -> Vec<Example> {
     vec![
         example("blank", blank()),
         example("job-e", job_e()),
+        example("april", april()),
         example("hotel", hotel()),
         example("school", school()),
         example("stale", stale()),
@@ -42,6 +43,16 @@ fn job_e() -> Job {
         file: filled(even_file(1, 2, 2, 0), &[(2, 50), (3, 70)]),
         operations: vec![insert(4, 90), search(3), delete(3), search(3)],
         turns: vec![1, 0, 0, 0, 0, 0, 0, 0, 2, 2, 2, 2, 2, 2, 3, 3, 3, 1, 0, 0],
+    }
+}
+
+/// The month after job E: the file that it leaves, and what examples/april.ops
+/// says. `.ci/months` holds the job that is made of the two to this one.
+fn april() -> Job {
+    Job {
+        file: filled(even_file(1, 2, 2, 1), &[(2, 50), (4, 90)]),
+        operations: vec![delete(2), insert(6, 40), insert(7, 25), search(4)],
+        turns: rounds(&[0, 1, 2, 3], 10),
     }
 }
 

@@ -10,6 +10,15 @@ use chargefile_tests::job::{Counts, Job};
 use chargefile_tests::run::Run;
 use chargefile_tests::{check, report};
 
+/// The files of the folder that no program writes.
+const BY_HAND: [&str; 5] = [
+    "README.md",
+    "april.ops",
+    "job_files.h",
+    "new_job.c",
+    "next_month.c",
+];
+
 fn folder() -> PathBuf {
     Path::new(env!("CARGO_MANIFEST_DIR")).join("../examples")
 }
@@ -46,7 +55,7 @@ fn moment_and_turns(job: &Job, run: &Run, operation: usize) -> (usize, Vec<usize
 
 #[test]
 fn the_files_are_what_is_written() {
-    let mut wanted = BTreeSet::from(["README.md".to_string()]);
+    let mut wanted = BTreeSet::from(BY_HAND.map(String::from));
     for Example { name, job } in examples() {
         let bytes = job.to_bytes();
         assert!(read(&format!("{name}.job")) == bytes, "{name}.job");
@@ -81,6 +90,18 @@ fn job_e_is_the_marked_one() {
     let vector = |name: &str| fs::read(vectors.join(name)).expect("a vector");
     assert_eq!(read("job-e.job"), vector("marked-b.job"));
     assert_eq!(read("job-e.txt"), vector("marked-b.out"));
+}
+
+#[test]
+fn april_begins_with_the_file_that_job_e_leaves() {
+    let left = dealt(&example("job-e")).contents().charge_file;
+    let april = example("april");
+    assert_eq!(left, Some(Job::charge_file(&april.file)));
+    let run = dealt(&april);
+    assert!(run.waits > 0, "insert 6 waits for the delete");
+    assert_eq!(run.unfinished().count(), 0);
+    let told = [Code::Deleted, Code::Stored, Code::Stored, Code::Found];
+    assert_eq!(codes(&run), told);
 }
 
 #[test]

@@ -1,0 +1,56 @@
+/* What next_month.c and new_job.c share: inputs, outputs, numbers, and how a refusal is told. */
+#ifndef JOB_FILES_H
+#define JOB_FILES_H
+
+#include <inttypes.h>
+#include <stdbool.h>
+#include <stdio.h>
+
+#include "chargefile.h"
+
+/* Room for a job. One byte more than the longest has, so that a longer one is not cut to a sound
+ * one: its length is then not its total, and it is refused. */
+#define JOB_ROOM (CHARGEFILE_JOB_MAX + 1)
+
+/* Whether all that was wanted of an input was read; said on standard error where not. */
+static inline bool was_read(const char *program, FILE *from, const char *name)
+{
+    if (from != NULL && !ferror(from)) {
+        return true;
+    }
+    fprintf(stderr, "%s: %s cannot be read\n", program, name);
+    return false;
+}
+
+/* Writes all bytes to standard output; the exit status. */
+static inline int write_out(const char *program, const uint8_t *bytes, size_t length)
+{
+    if (fwrite(bytes, 1, length, stdout) == length && fflush(stdout) == 0) {
+        return 0;
+    }
+    fprintf(stderr, "%s: standard output cannot be written\n", program);
+    return 1;
+}
+
+/* Numbers are little-endian. */
+static inline void put_number(uint8_t *at, unsigned size, uint32_t number)
+{
+    for (unsigned i = 0; i < size; i++) {
+        at[i] = (uint8_t)(number >> 8 * i);
+    }
+}
+
+/* Whether a job was accepted; if not, says number, place and word (docs/FORMAT.md, "Refusals"). */
+static inline bool was_accepted(const char *program, chargefile_outcome told)
+{
+    static const char *const words[] = {"short", "version", "limit",     "offset", "entry", "page",
+                                        "owner", "record",  "operation", "turn",   "output"};
+    if (told.refusal == CHARGEFILE_ACCEPTED) {
+        return true;
+    }
+    fprintf(stderr, "%s: refused %" PRIu64 " %" PRIu64 ": %s\n", program, told.refusal, told.place,
+            words[told.refusal - 1]);
+    return false;
+}
+
+#endif
