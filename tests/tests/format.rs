@@ -80,7 +80,7 @@ fn changed(words: &str) -> Vec<u8> {
 #[test]
 fn the_worked_refusals() {
     let text = document();
-    let lines = section(&text, "### One of each, made of job E");
+    let lines = section(&text, "### Worked refusals, made of job E");
     let mut numbers = Vec::new();
     for line in lines.iter().filter(|line| line.starts_with('|')).skip(2) {
         let cells: Vec<&str> = line.split('|').map(str::trim).collect();

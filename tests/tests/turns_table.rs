@@ -1,4 +1,4 @@
-//! docs/TURNS.md: the table of its worked split is what the turns do.
+//! docs/TURNS.md: its two tables of turns are what the turns do.
 
 use std::fs;
 use std::path::Path;
@@ -8,13 +8,11 @@ use chargefile_tests::job::{Job, Kind, Operation};
 use chargefile_tests::page::{Page, Record};
 use chargefile_tests::run::Run;
 
-/// The cells of each line of the table, from the turn to the turns used.
-fn table() -> Vec<Vec<String>> {
+/// The cells of each line of a table, from the turn to the turns used.
+fn table(head: &str) -> Vec<Vec<String>> {
     let path = Path::new(env!("CARGO_MANIFEST_DIR")).join("../docs/TURNS.md");
     let text = fs::read_to_string(path).expect("docs/TURNS.md");
-    let from_head = text
-        .lines()
-        .skip_while(|line| !line.starts_with("| Turn |"));
+    let from_head = text.lines().skip_while(|line| !line.starts_with(head));
     let rows = from_head.skip(2).take_while(|line| line.starts_with('|'));
     let cells = |line: &str| {
         let inner = line.trim_matches('|').split('|');
@@ -23,16 +21,16 @@ fn table() -> Vec<Vec<String>> {
     rows.map(cells).collect()
 }
 
-/// The file above the table, and its one operation.
-fn start() -> Run {
+/// The file of both tables, with some operations.
+fn start(operations: &[(Kind, u32, u32)]) -> Run {
     let mut file = ChargeFile::empty(2, 2, 3);
     for (call, charge) in [(1, 10), (5, 20)] {
         file.page_mut(1).records.push(Record { call, charge });
     }
-    let (kind, call, charge) = (Kind::Insert, 3, 30);
+    let operation = |&(kind, call, charge)| Operation { kind, call, charge };
     Run::new(&Job {
         file,
-        operations: vec![Operation { kind, call, charge }],
+        operations: operations.iter().map(operation).collect(),
         turns: vec![],
     })
 }
@@ -42,10 +40,10 @@ fn spaced(numbers: impl IntoIterator<Item = usize>) -> String {
     words.join(" ")
 }
 
-/// Directory, locked pages, pages in use, answer and turns used, as the table words them.
-fn told(run: &Run) -> Vec<String> {
+/// Directory, locked pages, pages in use, and an operation's answer and turns used, as the tables word them.
+fn told(run: &Run, operation: usize) -> Vec<String> {
     let locked = spaced((1..=3).filter(|page| run.shared.locked(*page)));
-    let answer = run.answers()[0];
+    let answer = run.answers()[operation];
     let charge = match answer.charge {
         0 => String::new(),
         cents => format!(" {cents}"),
@@ -77,22 +75,50 @@ fn written(number: usize, page: &Page) -> String {
     )
 }
 
-#[test]
-fn every_line_of_the_table() {
-    let mut run = start();
-    let table = table();
-    for (turn, line) in table.iter().enumerate() {
-        let before = run.shared.file.clone();
-        run.deal(0);
-        assert_eq!(line[0], turn.to_string());
-        assert_eq!(line[3..], told(&run), "turn {turn}");
-        for number in 1..=3 {
-            let page = run.shared.file.page(number);
-            if page != before.page(number) {
-                assert_eq!(line[2], written(number, page), "turn {turn}");
-            }
+/// Deals a turn and compares: the cells behind the step are what it does, and what there is afterwards.
+fn follow(run: &mut Run, operation: usize, cells: &[String]) {
+    let before = run.shared.file.clone();
+    run.deal(operation);
+    assert_eq!(cells[1..], told(run, operation), "{cells:?}");
+    for number in 1..=3 {
+        let page = run.shared.file.page(number);
+        if page != before.page(number) {
+            assert_eq!(cells[0], written(number, page));
         }
+    }
+}
+
+#[test]
+fn a_split() {
+    let mut run = start(&[(Kind::Insert, 3, 30)]);
+    let table = table("| Turn | Step |");
+    for (turn, line) in table.iter().enumerate() {
+        assert_eq!(line[0], turn.to_string());
+        follow(&mut run, 0, &line[2..]);
     }
     assert_eq!(table.len(), 11);
     assert_eq!((run.under_way(), run.log()[0].moment), (0, 7));
+}
+
+#[test]
+fn three_operations() {
+    let operations = [
+        (Kind::Insert, 3, 30),
+        (Kind::Delete, 5, 0),
+        (Kind::Search, 5, 0),
+    ];
+    let mut run = start(&operations);
+    let table = table("| Turn | Operation |");
+    let mut used = [0; 3];
+    for (turn, line) in table.iter().enumerate() {
+        let operation: usize = line[1].parse().expect("an operation's number");
+        assert_eq!(line[0], turn.to_string());
+        follow(&mut run, operation, &line[3..]);
+        // a step has its name in slanted letters; a turn that is not one is not counted
+        used[operation] += usize::from(line[2].starts_with('*'));
+        assert_eq!(line[8], used[operation].to_string(), "turn {turn}");
+    }
+    assert_eq!(table.len(), 27);
+    let log: Vec<_> = run.log().iter().map(|l| (l.moment, l.operation)).collect();
+    assert_eq!((run.under_way(), log), (0, vec![(10, 0), (23, 2), (24, 1)]));
 }
