@@ -1,4 +1,4 @@
--- All that holds of every state of a run whose file is proper; and that an answer, once given, stays to the end.
+-- What the theorem needs of every state of a run whose file is proper; and that an answer, once given, stays to the end.
 use Prim.Native.Nat.{ℕ, zero, suc, _+_, _-_, _≤_}
 use mathlib.Core.Path.{_≡_, refl, sym, ap, _∙_}
 use native.Mathlib.Omega.{arith}
