@@ -28,25 +28,15 @@ fn agree(job: &[u8], result: usize, rows: usize, memory: usize) -> Outcome {
     let given = black_box(job.to_vec());
     let told = linked::run(&given, &mut after);
     assert!(black_box(given) == job, "the job's own bytes are written");
+    assert_eq!(told, linked::wanted(&wanted));
     match &wanted {
-        Outcome::Refused { number, place } => {
-            assert_eq!(
-                told,
-                Outcome::Refused {
-                    number: *number,
-                    place: *place
-                }
-            );
+        Outcome::Refused { .. } => {
             assert!(
                 after == before,
                 "a refused job has written to a lent buffer"
             );
         }
         Outcome::Done { result } => {
-            let Outcome::Done { result: told } = told else {
-                panic!("refused: {told:?}");
-            };
-            assert_eq!(told, *result);
             let end = result.len();
             assert!(
                 after.result[end..] == before.result[end..],

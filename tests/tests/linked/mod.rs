@@ -46,7 +46,7 @@ pub struct CallOutcome {
 }
 
 #[link(name = "chargefile", kind = "static")]
-extern "C" {
+unsafe extern "C" {
     fn chargefile_check(job: *const u8, job_len: usize) -> CallOutcome;
     fn chargefile_run(
         job: *const u8,
@@ -84,10 +84,15 @@ pub fn check_only(job: &[u8]) -> CallOutcome {
     unsafe { chargefile_check(job.as_ptr(), job.len()) }
 }
 
-/// The refusal of a job, as the tests' own implementation gives it.
-pub fn check(job: &[u8]) -> Option<(u32, u32)> {
+/// The refusal of a job: number and place as they were told, whole, so that a library that sets high bits is caught.
+pub fn check(job: &[u8]) -> Option<(u64, u64)> {
     let told = check_only(job);
-    (told.refusal != 0).then_some((told.refusal as u32, told.place as u32))
+    assert_eq!(told.length, 0, "a check has no output");
+    if told.refusal == 0 {
+        assert_eq!(told.place, 0, "the place of a job that was accepted");
+        return None;
+    }
+    Some((told.refusal, told.place))
 }
 
 /// The run of a job.
@@ -107,18 +112,24 @@ pub fn run_only(job: &[u8], lent: &mut Lent) -> CallOutcome {
     }
 }
 
-/// Runs a job, as the tests' own implementation answers it.
-pub fn run(job: &[u8], lent: &mut Lent) -> Outcome {
+/// What a run came to: the result's bytes, or number and place of the refusal, whole.
+pub type Told = Result<Vec<u8>, (u64, u64)>;
+
+/// Runs a job.
+pub fn run(job: &[u8], lent: &mut Lent) -> Told {
     let told = run_only(job, lent);
     if told.refusal == 0 {
         assert_eq!(told.place, 0, "the place of a job that was run");
-        return Outcome::Done {
-            result: lent.result[..told.length as usize].to_vec(),
-        };
+        return Ok(lent.result[..told.length as usize].to_vec());
     }
     assert_eq!(told.length, 0, "the length of a job that was refused");
-    Outcome::Refused {
-        number: told.refusal as u32,
-        place: told.place as u32,
+    Err((told.refusal, told.place))
+}
+
+/// What the library must tell where the tests' own implementation comes to this.
+pub fn wanted(outcome: &Outcome) -> Told {
+    match outcome {
+        Outcome::Done { result } => Ok(result.clone()),
+        Outcome::Refused { number, place } => Err((u64::from(*number), u64::from(*place))),
     }
 }

@@ -1,0 +1,21 @@
+//! The library's time as a ratio to the tuned rival's (tests/rival): both built for release, alternating in one process, the best of many.
+//! `cargo bench --offline`. No test: it prints, and asserts nothing about time, only that the turns are of the kinds that they are called and that both
+//! come to the same bytes for every job that is measured.
+
+mod bytes;
+mod calls;
+mod depths;
+mod jobs;
+#[path = "../../tests/linked/mod.rs"]
+mod linked;
+mod measure;
+mod table;
+mod turns;
+mod whole;
+
+fn main() {
+    whole::print();
+    turns::print();
+    depths::print();
+    bytes::print();
+}

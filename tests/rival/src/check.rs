@@ -1,0 +1,146 @@
+//! The quick check: does a row of the refusal table meet the job, yes or no? Each byte is looked at about once, and in the loops over
+//! many bytes faults are gathered and not jumped on, so that the compiler can take many bytes at a time.
+
+use crate::bytes::{four_at, two_at};
+use crate::header::{by_length, Header};
+use crate::key::{low_bits, reversed};
+use crate::{exact, page, Refusal};
+
+/// Rows 1 to 10 of the refusal table.
+pub fn check(job: &[u8]) -> Result<(), Refusal> {
+    accepted(job).map(|_| ())
+}
+
+/// The header of a job that no row meets.
+#[inline(always)]
+pub(crate) fn accepted(job: &[u8]) -> Result<Header, Refusal> {
+    sound(job).ok_or_else(|| exact::refusal(job))
+}
+
+#[inline(always)]
+fn sound(job: &[u8]) -> Option<Header> {
+    let bytes = job.first_chunk()?;
+    let header = Header::read(bytes);
+    if !counts_sound(&header) || !offsets_sound(bytes, &header, job.len()) {
+        return None;
+    }
+    let directory = job[32..header.table_at()].as_chunks().0;
+    let table = &job[header.table_at()..header.operations_at()];
+    let operations = job[header.operations_at()..header.turns_at()].as_chunks().0;
+    let turns = job[header.turns_at()..].as_chunks().0;
+    let fine = by_length!(header.capacity, pages_sound, table, directory, &header)
+        && operations_sound(operations)
+        && turns_sound(turns, header.operations);
+    fine.then_some(header)
+}
+
+/// Row 3. A count less one wraps where the count is 0.
+#[inline(always)]
+fn counts_sound(header: &Header) -> bool {
+    (header.depth <= 8)
+        & (header.capacity.wrapping_sub(1) < 8)
+        & (header.pages <= 256)
+        & (header.in_use.wrapping_sub(1) < header.pages)
+        & (header.operations <= 256)
+        & (header.turns <= 16_384)
+}
+
+/// Rows 2 and 4.
+#[inline(always)]
+fn offsets_sound(bytes: &[u8; 32], header: &Header, length: usize) -> bool {
+    (two_at(bytes, 0) == 1)
+        & (four_at(bytes, 12) == 32)
+        & (four_at(bytes, 16) as usize == header.table_at())
+        & (four_at(bytes, 20) as usize == header.operations_at())
+        & (four_at(bytes, 24) as usize == header.turns_at())
+        & (four_at(bytes, 28) as usize == header.total())
+        & (length == header.total())
+}
+
+/// Row 9. Kind and spare byte are taken as one number.
+#[inline(always)]
+fn operations_sound(operations: &[[u8; 10]]) -> bool {
+    let mut fault = 0;
+    for operation in operations {
+        let kind = two_at(operation, 0) as u32;
+        let must_be_zero = if kind == 2 { 0 } else { four_at(operation, 6) };
+        fault |= (kind.wrapping_sub(1) > 2) as u32 | must_be_zero;
+    }
+    fault == 0
+}
+
+/// Row 10.
+#[inline(always)]
+fn turns_sound(turns: &[[u8; 2]], operations: usize) -> bool {
+    if operations == 0 {
+        return turns.is_empty();
+    }
+    let last = (operations - 1) as u16;
+    let mut above = 0;
+    for turn in turns {
+        above |= u16::from_le_bytes(*turn).saturating_sub(last);
+    }
+    above == 0
+}
+
+/// Rows 5 to 8. Rows 5 and 7 hold for no entry exactly when every page in use is named by all the entries that its pattern begins,
+/// and these are together as many as there are entries: then none of them has two owners, and none is left over.
+#[inline(never)]
+fn pages_sound<const N: usize>(table: &[u8], directory: &[[u8; 2]], header: &Header) -> bool {
+    let (in_use, unused) = table.split_at(header.in_use * N);
+    if !is_zero(unused) {
+        return false;
+    }
+    let mut owned = 0;
+    for (x, page) in in_use.as_chunks::<N>().0.iter().enumerate() {
+        let local = page[0] as u32;
+        let pattern = two_at(page, 2) as usize;
+        if local > header.depth || pattern >> local != 0 || page[1] as usize > page::room::<N>() {
+            return false;
+        }
+        let entries = 1 << (header.depth - local);
+        let first = pattern * entries;
+        owned += entries;
+        if !all_name(&directory[first..first + entries], (x + 1) as u16) {
+            return false;
+        }
+        if !records_sound(page, local, reversed(pattern as u8, local) as u32) {
+            return false;
+        }
+    }
+    owned == directory.len()
+}
+
+#[inline(always)]
+fn is_zero(bytes: &[u8]) -> bool {
+    bytes.iter().fold(0, |all, byte| all | byte) == 0
+}
+
+#[inline(always)]
+fn all_name(entries: &[[u8; 2]], page: u16) -> bool {
+    let mut other = 0;
+    for entry in entries {
+        other |= u16::from_le_bytes(*entry) ^ page;
+    }
+    other == 0
+}
+
+/// A page's records: their calls have these low bits, none comes twice, and behind the last all is zero.
+#[inline(always)]
+fn records_sound<const N: usize>(page: &[u8; N], local: u32, low: u32) -> bool {
+    let (mut fault, mut behind) = (0, 0);
+    for i in 0..page::room::<N>() {
+        let record = page::record(page, i);
+        if i < page[1] as usize {
+            let call = record as u32;
+            fault |= low_bits(call ^ low, local);
+            let twice = (0..i).fold(false, |twice, k| {
+                twice | (page::record(page, k) as u32 == call)
+            });
+            fault |= twice as u32;
+        } else {
+            behind |= record;
+        }
+    }
+    fault == 0 && behind == 0
+}

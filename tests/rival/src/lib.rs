@@ -1,0 +1,34 @@
+//! The check and the run of a job in safe Rust, tuned for time: what the library's time is held against. For measuring, not for use.
+//!
+//! What makes it fast:
+//!
+//! - a check of one pass that says only yes or no (`check`); where it says no, the refusal is looked for row by row (`exact`);
+//! - every table of a run is a view of the lent memory with a fixed size and byte-wide numbers, so that few indices are tested
+//!   (`tables`), and the length of a page is a constant of the compiled code (`header::by_length`);
+//! - a turn that waits, or that is of a finished operation, is one test (`tables::FREE`).
+//!
+//! A mask on an index or a shift, as in `count & 15`, changes nothing: it spares a test that the compiler would put in.
+#![forbid(unsafe_code)]
+
+mod bytes;
+mod check;
+mod exact;
+mod header;
+mod held;
+mod key;
+mod log;
+mod operation;
+mod page;
+mod pieces;
+mod result;
+mod run;
+mod search;
+mod split;
+mod tables;
+
+pub use check::check;
+pub use operation::Row;
+pub use run::run;
+
+/// What a refused job gets: number and place.
+pub type Refusal = (u32, usize);

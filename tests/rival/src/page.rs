@@ -1,0 +1,66 @@
+//! A page's bytes: local depth, count, pattern, records. A record is taken as one number of 8 bytes, with the call in its low half.
+
+/// How many records a page of this length takes.
+#[inline(always)]
+pub const fn room<const N: usize>() -> usize {
+    (N - 4) / 8
+}
+
+#[inline(always)]
+pub fn record<const N: usize>(page: &[u8; N], i: usize) -> u64 {
+    u64::from_le_bytes(page[4..].as_chunks().0[i])
+}
+
+#[inline(always)]
+pub fn put_record<const N: usize>(page: &mut [u8; N], i: usize, record: u64) {
+    page[4..].as_chunks_mut().0[i] = record.to_le_bytes();
+}
+
+#[inline(always)]
+pub fn charge_of(record: u64) -> u32 {
+    (record >> 32) as u32
+}
+
+/// Where the call's record stands. All records are looked at, those not in use too, since that needs no jump; a bit for each.
+#[inline(always)]
+pub fn find<const N: usize>(page: &[u8; N], call: u32) -> Option<usize> {
+    let mut found = 0u32;
+    for i in 0..room::<N>() {
+        found |= ((record(page, i) as u32 == call) as u32) << i;
+    }
+    found &= (1 << (page[1] & 15)) - 1;
+    (found != 0).then_some(found.trailing_zeros() as usize)
+}
+
+/// How many leading bits the pseudo keys of all records of a full page share with the call's, which is not in it.
+#[inline(always)]
+pub fn shared_bits<const N: usize>(page: &[u8; N], call: u32) -> u32 {
+    let mut differ = 0;
+    for i in 0..room::<N>() {
+        differ |= record(page, i) as u32 ^ call;
+    }
+    differ.trailing_zeros()
+}
+
+/// Puts a record behind the last.
+#[inline(always)]
+pub fn append<const N: usize>(page: &mut [u8; N], record: u64) {
+    let count = page[1] as usize;
+    put_record(page, count, record);
+    page[1] += 1;
+}
+
+/// Takes record `at` out and closes the gap.
+#[inline(always)]
+pub fn remove<const N: usize>(page: &mut [u8; N], at: usize) {
+    for i in 0..room::<N>() {
+        let here = record(page, i);
+        let next = if i + 1 < room::<N>() {
+            record(page, i + 1)
+        } else {
+            0
+        };
+        put_record(page, i, if i < at { here } else { next });
+    }
+    page[1] -= 1;
+}

@@ -1,0 +1,259 @@
+//! The tuned rival (tests/rival) against the tests' own implementation: a ratio to it says something only as long as it does the whole work.
+//! Refusals, result bytes and every lent buffer afterwards: every vector, random jobs and damaged ones.
+
+use std::fs;
+use std::path::Path;
+
+use chargefile_tests::check::{result_room, WORKING_MEMORY};
+use chargefile_tests::damage::{fault, scribble};
+use chargefile_tests::file::ChargeFile;
+use chargefile_tests::job::{Counts, Job, Kind, Operation};
+use chargefile_tests::make;
+use chargefile_tests::page::Record;
+use chargefile_tests::random::Random;
+use chargefile_tests::seeds::{each_seed, few_seeds};
+use chargefile_tests::{check, run, Outcome};
+use rival::Row;
+
+const JOBS: u64 = 20_000;
+const DAMAGED: u64 = 2_000;
+
+/// A row that no run leaves behind.
+const OTHER_ROW: Row = Row {
+    charge: 0x5A5A_5A5A,
+    moment: 0x5A5A,
+    used: 0x5A5A,
+    code: 0x5A,
+    page: 0x5A,
+    home: 0x5A,
+    base: 0x5A,
+    count: 0x5A,
+    next: 0x5A,
+    spare: 0x5A5A,
+};
+
+/// What a run is lent, filled with a pattern beforehand.
+#[derive(Clone, PartialEq)]
+struct Lent {
+    result: Vec<u8>,
+    rows: Vec<Row>,
+    memory: Vec<u8>,
+}
+
+impl Lent {
+    fn new((result, rows, memory): (usize, usize, usize)) -> Lent {
+        Lent {
+            result: vec![0xA5; result],
+            rows: vec![OTHER_ROW; rows],
+            memory: vec![0xC3; memory],
+        }
+    }
+
+    /// After a run with a result of so many bytes.
+    fn is_left_clean(&self, length: usize) -> bool {
+        self.result[length..].iter().all(|byte| *byte == 0xA5)
+            && self.rows.iter().all(|row| *row == Row::default())
+            && self.memory.iter().all(|byte| *byte == 0)
+    }
+}
+
+/// Both come to the same, in the check and in the run, and what is lent is left as the document says.
+fn agree(job: &[u8], lent: (usize, usize, usize)) -> Outcome {
+    let refused = |(number, place): (u32, u32)| (number, place as usize);
+    assert_eq!(rival::check(job).err(), check(job).map(refused));
+    let before = Lent::new(lent);
+    let mut after = before.clone();
+    let told = rival::run(job, &mut after.result, &mut after.rows, &mut after.memory);
+    let wanted = run(job, lent.0, lent.1, lent.2);
+    match &wanted {
+        Outcome::Refused { number, place } => {
+            assert_eq!(told, Err((*number, *place as usize)));
+            assert!(after == before, "a refused job has written");
+        }
+        Outcome::Done { result } => {
+            assert_eq!(told, Ok(result.len()));
+            assert_eq!(after.result[..result.len()], result[..]);
+            assert!(after.is_left_clean(result.len()), "what a run leaves");
+        }
+    }
+    wanted
+}
+
+/// The least that a job's run may be lent.
+fn least(job: &[u8]) -> (usize, usize, usize) {
+    let counts = Counts::read(job);
+    (result_room(&counts), counts.operations, WORKING_MEMORY)
+}
+
+/// Enough for every job.
+const ENOUGH: (usize, usize, usize) = (21_048, 256, WORKING_MEMORY);
+
+#[test]
+fn every_vector() {
+    let folder = Path::new(env!("CARGO_MANIFEST_DIR")).join("vectors");
+    let (mut jobs, mut refused) = (0, 0);
+    for file in fs::read_dir(folder).expect("the folder of vectors") {
+        let path = file.expect("a file of vectors").path();
+        if path.extension().is_some_and(|ending| ending == "job") {
+            let outcome = agree(&fs::read(path).expect("a job"), ENOUGH);
+            jobs += 1;
+            refused += usize::from(matches!(outcome, Outcome::Refused { .. }));
+        }
+    }
+    assert!(jobs >= 150, "only {jobs} vectors");
+    assert!(refused >= 40 && refused <= jobs - 40, "{refused} refused");
+}
+
+#[test]
+fn random_jobs() {
+    let (mut jobs, mut codes) = (0, [0usize; 9]);
+    let whole = each_seed(JOBS, |seed| {
+        let random = &mut Random::new(seed, "rival");
+        let job = if seed % 16 == 0 {
+            make::job(random)
+        } else {
+            make::small_job(random)
+        };
+        let bytes = job.to_bytes();
+        let (result, rows, memory) = least(&bytes);
+        let more = random.below(3) * random.below(300);
+        let Outcome::Done { result } = agree(&bytes, (result + more, rows + more, memory + more))
+        else {
+            panic!("a job that meets no row is run");
+        };
+        for answer in result[24..].chunks(8).take(job.operations.len()) {
+            codes[usize::from(answer[0])] += 1;
+        }
+        jobs += 1;
+    });
+    if whole {
+        println!("answers by code: {codes:?}");
+        assert!(jobs >= JOBS, "only {jobs} jobs");
+        assert!(codes.iter().all(|count| *count > 100), "{codes:?}");
+    }
+}
+
+#[test]
+fn damaged_jobs() {
+    let (mut jobs, mut refused) = (0, [0usize; 11]);
+    let whole = each_seed(DAMAGED, |seed| {
+        let random = &mut Random::new(seed, "rival damage");
+        let job = make::small_job(random);
+        let bytes = job.to_bytes();
+        for number in 1..=10 {
+            let faulty = fault(random, &job, number).map(|fault| fault.apply(&bytes));
+            for damaged in faulty.into_iter().chain([scribble(random, &bytes)]) {
+                let outcome = agree(&damaged, ENOUGH);
+                if let Outcome::Refused { number, .. } = outcome {
+                    refused[number as usize] += 1;
+                }
+                jobs += 1;
+            }
+        }
+    });
+    if whole {
+        println!("of {jobs} jobs, refusals by number: {refused:?}");
+        assert!(jobs >= 15 * DAMAGED, "only {jobs} jobs");
+        assert!(refused[1..].iter().all(|count| *count > 50), "{refused:?}");
+    }
+}
+
+#[test]
+fn every_length_of_one_job() {
+    let bytes = make::small_job(&mut Random::new(1, "lengths")).to_bytes();
+    for length in 0..bytes.len() {
+        assert!(matches!(
+            agree(&bytes[..length], ENOUGH),
+            Outcome::Refused { .. }
+        ));
+    }
+}
+
+/// A job of one empty page that keeps to no limit by itself, but all of whose offsets are as computed.
+fn sized(depth: u32, capacity: usize, pages: usize, operations: usize, turns: usize) -> Vec<u8> {
+    let search = Operation {
+        kind: Kind::Search,
+        call: 1,
+        charge: 0,
+    };
+    let job = Job {
+        file: ChargeFile {
+            in_use: 1.min(pages),
+            ..ChargeFile::empty(depth, capacity, pages)
+        },
+        operations: vec![search; operations],
+        turns: vec![0; turns],
+    };
+    job.to_bytes()
+}
+
+/// The quick check sees each limit by itself: no offset is wrong beside it.
+#[test]
+fn at_each_limit_and_beyond() {
+    let refused = |place| Outcome::Refused { number: 3, place };
+    assert_eq!(agree(&sized(9, 8, 1, 1, 1), ENOUGH), refused(2));
+    assert_eq!(agree(&sized(8, 9, 1, 1, 1), ENOUGH), refused(3));
+    assert_eq!(agree(&sized(8, 0, 1, 1, 1), ENOUGH), refused(3));
+    assert_eq!(agree(&sized(8, 8, 257, 1, 1), ENOUGH), refused(4));
+    assert_eq!(agree(&sized(8, 8, 0, 1, 1), ENOUGH), refused(4));
+    assert_eq!(agree(&sized(8, 8, 1, 257, 1), ENOUGH), refused(8));
+    assert_eq!(agree(&sized(8, 8, 1, 1, 16_385), ENOUGH), refused(10));
+    for job in [sized(0, 1, 1, 0, 0), sized(8, 8, 256, 256, 16_384)] {
+        assert!(matches!(agree(&job, ENOUGH), Outcome::Done { .. }));
+    }
+}
+
+#[test]
+fn too_little_lent() {
+    let mut jobs = 0;
+    few_seeds(500, |seed| {
+        let bytes = make::small_job(&mut Random::new(seed, "rival output")).to_bytes();
+        let (result, rows, memory) = least(&bytes);
+        let refused = |place| Outcome::Refused { number: 11, place };
+        assert_eq!(agree(&bytes, (result - 1, 0, 0)), refused(0));
+        assert_eq!(agree(&bytes, (result, rows, memory - 1)), refused(2));
+        if rows > 0 {
+            assert_eq!(agree(&bytes, (result, rows - 1, 0)), refused(1));
+            jobs += 1;
+        }
+    });
+    assert!(jobs > 0, "no job with an operation");
+}
+
+/// An insert splits the one page; all other operations search for a call that moves. They begin before, and read the old page after their entry was
+/// changed: all have that turn for their moment, and the last to read comes first in the log. No more lines can be out of order.
+#[test]
+fn a_log_that_comes_backwards() {
+    let mut file = ChargeFile::empty(1, 2, 2);
+    for call in [2, 3] {
+        file.page_mut(1).records.push(Record { call, charge: 7 });
+    }
+    let search = Operation {
+        kind: Kind::Search,
+        call: 3,
+        charge: 0,
+    };
+    let mut operations = vec![search; 256];
+    operations[0] = Operation {
+        kind: Kind::Insert,
+        call: 5,
+        charge: 9,
+    };
+    let mut turns: Vec<usize> = (1..256).collect();
+    turns.extend([0; 6]);
+    turns.extend((1..256).rev());
+    let job = Job {
+        file,
+        operations,
+        turns,
+    };
+    let Outcome::Done { result } = agree(&job.to_bytes(), ENOUGH) else {
+        panic!("a job that meets no row is run");
+    };
+    let changed = 255 + 5u16;
+    let log = &result[24 + 8 * 256..][..4 * 256];
+    for (i, line) in log.chunks(4).enumerate() {
+        assert_eq!(line[..2], changed.to_le_bytes());
+        assert_eq!(line[2..], (i as u16).to_le_bytes());
+    }
+}
