@@ -33,9 +33,14 @@ def must_fail():
     return [read(path.parent.parent.name, path) for path in sorted((ROOT / "crates").glob("*/must-fail/*.edit"))]
 
 
-def wrong_programs():
-    """Those that .ci/wrong tries, each with what it touches."""
+def finer():
+    """The wrong programs that rt ci does not try."""
     return [read(path.parent.name, path) for path in sorted((ROOT / "tests/edits").glob("*/*.edit"))]
+
+
+def wrong_programs():
+    """Those that .ci/wrong tries, each with what it touches: all wrong programs."""
+    return [edit for edit in must_fail() if edit.crate != "spec"] + finer()
 
 
 def wrong_definitions():

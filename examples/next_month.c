@@ -29,8 +29,13 @@ static int write_charge_file(void)
     return write_out(NAME, result + offset, total - offset);
 }
 
-int main(void)
+int main(int count, char **words)
 {
+    (void)words;
+    if (count != 1) {
+        fprintf(stderr, "usage: %s < JOB > CHARGE-FILE\n", NAME);
+        return 1;
+    }
     size_t length = fread(job, 1, sizeof job, stdin);
     if (!was_read(NAME, stdin, "standard input")) {
         return 1;
