@@ -58,6 +58,13 @@ pub fn result_room(counts: &Counts) -> usize {
         + counts.charge_file_length()
 }
 
+/// The least that a run of this job may be lent: bytes of the result buffer,
+/// rows, and bytes of other working memory.
+pub fn least_lent(job: &[u8]) -> (usize, usize, usize) {
+    let counts = Counts::read(job);
+    (result_room(&counts), counts.operations, WORKING_MEMORY)
+}
+
 /// Row 1: "under 32 bytes; place is the length".
 fn short(job: &[u8]) -> Option<usize> {
     (job.len() < HEADER_LENGTH).then_some(job.len())

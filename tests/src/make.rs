@@ -29,6 +29,16 @@ pub fn small_job(random: &mut Random) -> Job {
     job
 }
 
+/// A job of any size for every sixteenth seed, and else a small one: a large one
+/// takes long.
+pub fn mostly_small_job(random: &mut Random, seed: u64) -> Job {
+    if seed % 16 == 0 {
+        job(random)
+    } else {
+        small_job(random)
+    }
+}
+
 fn job_without_turns(random: &mut Random) -> Job {
     let mut file = empty_file(random);
     let calls = pool(random, file.depth);

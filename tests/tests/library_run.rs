@@ -4,10 +4,10 @@ mod linked;
 
 use std::hint::black_box;
 
-use chargefile_tests::check::{result_room, WORKING_MEMORY};
+use chargefile_tests::check::least_lent;
 use chargefile_tests::damage::{fault, scribble};
 use chargefile_tests::explain::explain;
-use chargefile_tests::job::{Counts, Job};
+use chargefile_tests::job::Job;
 use chargefile_tests::little_endian::four_at;
 use chargefile_tests::make;
 use chargefile_tests::plain_list::PlainList;
@@ -55,24 +55,14 @@ fn agree(job: &[u8], result: usize, rows: usize, memory: usize) -> Outcome {
     wanted
 }
 
-/// The least that a job's run may be lent.
-fn least(job: &[u8]) -> (usize, usize, usize) {
-    let counts = Counts::read(job);
-    (result_room(&counts), counts.operations, WORKING_MEMORY)
-}
-
 #[test]
 fn random_jobs() {
     let (mut files, mut codes) = (0, [0usize; 9]);
     let whole = each_seed(JOBS, |seed| {
         let random = &mut Random::new(seed, "library run");
-        let job = if seed % 16 == 0 {
-            make::job(random)
-        } else {
-            make::small_job(random)
-        };
+        let job = make::mostly_small_job(random, seed);
         let bytes = job.to_bytes();
-        let (result, rows, memory) = least(&bytes);
+        let (result, rows, memory) = least_lent(&bytes);
         let more = random.below(3) * random.below(300);
         let outcome = agree(
             &bytes,
@@ -104,7 +94,7 @@ fn the_buffer_explains_the_job() {
         let random = &mut Random::new(seed, "library explained");
         let job = make::small_job(random);
         let bytes = job.to_bytes();
-        let (room, rows, memory) = least(&bytes);
+        let (room, rows, memory) = least_lent(&bytes);
         let mut lent = Lent::new(room + random.below(300), rows, memory);
         let told = linked::run_only(&bytes, &mut lent);
         let total = u64::from(four_at(&lent.result, 20));
@@ -131,7 +121,7 @@ fn damaged_jobs() {
         let random = &mut Random::new(seed, "library damage");
         let job = make::small_job(random);
         let bytes = job.to_bytes();
-        let (result, rows, memory) = least(&bytes);
+        let (result, rows, memory) = least_lent(&bytes);
         for number in 1..=10 {
             let damaged = match fault(random, &job, number) {
                 Some(fault) if random.percent(60) => fault.apply(&bytes),
@@ -158,7 +148,7 @@ fn too_little_lent() {
     few_seeds(2_000, |seed| {
         let random = &mut Random::new(seed, "library output");
         let bytes = make::small_job(random).to_bytes();
-        let (result, rows, memory) = least(&bytes);
+        let (result, rows, memory) = least_lent(&bytes);
         let refused = |place| Outcome::Refused { number: 11, place };
         assert_eq!(agree(&bytes, result - 1, 0, 0), refused(0));
         assert_eq!(agree(&bytes, result, rows, memory - 1), refused(2));

@@ -4,10 +4,10 @@
 use std::fs;
 use std::path::Path;
 
-use chargefile_tests::check::{result_room, WORKING_MEMORY};
+use chargefile_tests::check::{least_lent, WORKING_MEMORY};
 use chargefile_tests::damage::{fault, scribble};
 use chargefile_tests::file::ChargeFile;
-use chargefile_tests::job::{Counts, Job, Kind, Operation};
+use chargefile_tests::job::{Job, Kind, Operation};
 use chargefile_tests::make;
 use chargefile_tests::page::Record;
 use chargefile_tests::random::Random;
@@ -79,12 +79,6 @@ fn agree(job: &[u8], lent: (usize, usize, usize)) -> Outcome {
     wanted
 }
 
-/// The least that a job's run may be lent.
-fn least(job: &[u8]) -> (usize, usize, usize) {
-    let counts = Counts::read(job);
-    (result_room(&counts), counts.operations, WORKING_MEMORY)
-}
-
 /// Enough for every job.
 const ENOUGH: (usize, usize, usize) = (21_048, 256, WORKING_MEMORY);
 
@@ -109,13 +103,9 @@ fn random_jobs() {
     let (mut jobs, mut codes) = (0, [0usize; 9]);
     let whole = each_seed(JOBS, |seed| {
         let random = &mut Random::new(seed, "rival");
-        let job = if seed % 16 == 0 {
-            make::job(random)
-        } else {
-            make::small_job(random)
-        };
+        let job = make::mostly_small_job(random, seed);
         let bytes = job.to_bytes();
-        let (result, rows, memory) = least(&bytes);
+        let (result, rows, memory) = least_lent(&bytes);
         let more = random.below(3) * random.below(300);
         let Outcome::Done { result } = agree(&bytes, (result + more, rows + more, memory + more))
         else {
@@ -208,7 +198,7 @@ fn too_little_lent() {
     let mut jobs = 0;
     few_seeds(500, |seed| {
         let bytes = make::small_job(&mut Random::new(seed, "rival output")).to_bytes();
-        let (result, rows, memory) = least(&bytes);
+        let (result, rows, memory) = least_lent(&bytes);
         let refused = |place| Outcome::Refused { number: 11, place };
         assert_eq!(agree(&bytes, (result - 1, 0, 0)), refused(0));
         assert_eq!(agree(&bytes, (result, rows, memory - 1)), refused(2));
