@@ -2,7 +2,7 @@
 use Prim.Native.Nat.{ℕ, _≤_}
 use mathlib.Core.Path.{_≡_, refl, sym, _∙_}
 use mathlib.Core.List.{List, [], _∷_}
-use mathlib.Core.Option.{Option, none}
+use mathlib.Core.Option.{Option, none, some}
 use lib.ListN.{length}
 use Rattle.spec.specs.declared.Spot.{Spot}
 use Rattle.spec.specs.declared.Spot.the-variants.{At, Nowhere}
@@ -17,21 +17,35 @@ use Rattle.laws.specs.Codec.Tools.{when-none, ltb-no}
 use Rattle.laws.specs.Codec.Rows.{limits-said, header-said}
 use Rattle.header.specs.declared.Header.{Header}
 use Rattle.header.specs.Counts.{countsOf, Heads}
+use Rattle.job.specs.Answer.{refused}
 use Rattle.job.proofs.Walk.{spot-some, spot-none}
 
 -- a row that does not hold
 pub passed : (o : Option ℕ) (s : Spot) → s ≡ spotOf o → s ≡ Nowhere → o ≡ none
 passed o s e f = spot-none o (sym f ∙ e)
 
--- a row of the table, numbered n, and those behind it
-module _ (n : ℕ) (r : List ℕ → Option ℕ) (rs : List Refusal) (b : List ℕ) where
-  pub row-hit : (s : Spot) (p : ℕ) → s ≡ spotOf (r b) → s ≡ At p → Refused n p ≡ checkedOf (firstRow (row n r ∷ rs) b)
-  unfolding firstRow numbered orElse checkedOf
-  row-hit s p e f = rw (spot-some (r b) p (sym f ∙ e))
+-- a row of the table, and those behind it
+module _ (r : Refusal) (rs : List Refusal) (b : List ℕ) where
+  pub told : (n p : ℕ) → Refused n p ≡ checkedOf (r b) → Refused n p ≡ checkedOf (firstRow (r ∷ rs) b)
+  unfolding firstRow orElse checkedOf
+  told n p e = rw (refused (r b) n p e)
 
-  pub row-next : (c : Checked) → r b ≡ none → c ≡ checkedOf (firstRow rs b) → c ≡ checkedOf (firstRow (row n r ∷ rs) b)
-  unfolding firstRow numbered orElse
-  row-next c e f = rw e f
+  pub untold : (c : Checked) → r b ≡ none → c ≡ checkedOf (firstRow rs b) → c ≡ checkedOf (firstRow (r ∷ rs) b)
+  unfolding firstRow orElse
+  untold c e f = rw e f
+
+-- a row of one number, n, and those behind it
+module _ (n : ℕ) (t : List ℕ → Option ℕ) (rs : List Refusal) (b : List ℕ) where
+  pub row-at : (p : ℕ) → t b ≡ some p → Refused n p ≡ checkedOf (firstRow (row n t ∷ rs) b)
+  unfolding numbered checkedOf
+  row-at p e = told (row n t) rs b n p (rw e)
+
+  pub row-hit : (s : Spot) (p : ℕ) → s ≡ spotOf (t b) → s ≡ At p → Refused n p ≡ checkedOf (firstRow (row n t ∷ rs) b)
+  row-hit s p e f = row-at p (spot-some (t b) p (sym f ∙ e))
+
+  pub row-next : (c : Checked) → t b ≡ none → c ≡ checkedOf (firstRow rs b) → c ≡ checkedOf (firstRow (row n t ∷ rs) b)
+  unfolding numbered
+  row-next c e f = untold (row n t) rs b c (rw e) f
 
 pub rows-end : (b : List ℕ) → Accepted ≡ checkedOf (firstRow [] b)
 unfolding firstRow checkedOf

@@ -23,7 +23,7 @@ unfolding spotOf
 spot-none none e = refl
 spot-none (some q) e = let z : _≡_ {A = ℕ} 0 1 = cc in absurd (omega arith)
 
-module _ {A : Type 0} (f : ℕ → A → Option ℕ) (xs : List A) (d : A) where
+module _ {A B : Type 0} (f : ℕ → A → Option B) (xs : List A) (d : A) where
   -- no member below k has a fault
   abbrev pub Passed : ℕ → Type 0
   Passed k = (q : ℕ) → q < k → f q (getD xs q d) ≡ none
@@ -34,13 +34,18 @@ module _ {A : Type 0} (f : ℕ → A → Option ℕ) (xs : List A) (d : A) where
   pub passed-more : (k : ℕ) → Passed k → f k (getD xs k d) ≡ none → Passed (k + 1)
   passed-more = below-more (λ q. f q (getD xs q d) ≡ none)
 
-  pub passed-hit : (k p : ℕ) → k < length xs → Passed k → f k (getD xs k d) ≡ some p → At p ≡ spotOf (firstOf f 0 xs)
+  pub passed-end : (k : ℕ) → length xs ≤ k → Passed k → firstOf f 0 xs ≡ none
+  passed-end k l h = first-none f xs d .1 (λ q u. h q (omega arith))
+
+-- the same where the fault is a place
+module _ {A : Type 0} (f : ℕ → A → Option ℕ) (xs : List A) (d : A) where
+  pub passed-hit : (k p : ℕ) → k < length xs → Passed f xs d k → f k (getD xs k d) ≡ some p → At p ≡ spotOf (firstOf f 0 xs)
   unfolding spotOf
   passed-hit k p l h e = rw (first-at f xs d k p l h e)
 
-  pub passed-all : (k : ℕ) → length xs ≤ k → Passed k → Nowhere ≡ spotOf (firstOf f 0 xs)
+  pub passed-all : (k : ℕ) → length xs ≤ k → Passed f xs d k → Nowhere ≡ spotOf (firstOf f 0 xs)
   unfolding spotOf
-  passed-all k l h = rw (first-none f xs d .1 (λ q u. h q (omega arith)))
+  passed-all k l h = rw (passed-end f xs d k l h)
 
 -- the same where the fault is a test, and the member's number tells the place
 module _ {A : Type 0} (t : ℕ → A → Bool) (xs : List A) (d : A) where

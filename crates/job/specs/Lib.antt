@@ -1,5 +1,4 @@
 -- what the contracts cite
-pub mod Pages
 pub mod Owner
 pub mod Records
 -- laws for callers' proofs

@@ -11,7 +11,7 @@ use Rattle.spec.specs.Check.{wrongEntry, wrongPage, owns, ownsToo}
 use Rattle.header.specs.declared.Header.{Header}
 use Rattle.header.specs.Counts.{Heads}
 
--- what rows 1 to 6 leave
+-- what the rows before 7 leave
 pub record Paged (h : Header) (b : List ℕ) : Type 0 where
   pub heads : Heads h b
   pub entries : wrongEntry b ≡ none

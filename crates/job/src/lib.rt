@@ -57,9 +57,9 @@ fn from_entry(job: &[u8], h: Header) -> Checked
     if let Spot::At(place) = s {
         return Checked::Refused(5, place);
     }
-    let s = table::wrong_page(job, h);
-    if let Spot::At(place) = s {
-        return Checked::Refused(6, place);
+    let c = table::wrong_page(job, h);
+    if let Checked::Refused(number, place) = c {
+        return Checked::Refused(number, place);
     }
     from_owner(job, h)
 }

@@ -1,17 +1,17 @@
-// Rows 5 and 6: directory entries and pages, each by itself.
+// Rows 5, and 12, 6 and 13: directory entries, and pages, each by itself.
 use crate::head;
 use header::Header;
+use spec::Checked;
 use spec::Spot;
 ghost use mathlib.Core.Path.{_≡_};
-ghost use Prim.Native.Nat.{_≤_};
+ghost use Prim.Native.Nat.{_+_, _≤_};
 ghost use lib.ListN.{length, drop};
-ghost use Rattle.spec.specs.Bytes.{zeros};
 ghost use Rattle.spec.specs.Job.{pageSize};
-ghost use Rattle.spec.specs.Check.{wrongEntry, badPage, wrongPage};
-ghost use Rattle.spec.specs.Cases.{spotOf};
+ghost use Rattle.spec.specs.Check.{firstRow, wrongEntry, wrongPattern, notZero, usedRows, pageFault, wrongPage};
+ghost use Rattle.spec.specs.Cases.{spotOf, checkedOf};
+ghost use Rattle.laws.specs.Codec.Zeros.{zeros};
 ghost use Rattle.laws.specs.Codec.Rows.{Limits};
 ghost use Rattle.header.specs.Counts.{countsOf, Heads};
-ghost use Rattle.job.specs.Pages.{badHead};
 
 // 5 entry: "0 or above U"
 pub fn wrong_entry(job: &[u8], h: Header) -> Spot
@@ -44,48 +44,90 @@ fn is_zero(s: &[u8], from: usize) -> bool
     sum == 0
 }
 
-// A page in use: "l above g, pattern 2^l or more, count above c, or an unused record .. not zero".
-fn bad_used_page(h: Header, page: &[u8]) -> bool
-    requires { ⌜ Limits (countsOf h) × (length (now page) ≡ pageSize (h .capacity)) ⌝ }
-    ensures { λ r. ⌜ r ≡ badHead (countsOf h) (now (page .entry)) ⌝ }
+// 13 zero: "at the first byte that should be zero and is not", of the bytes from one on of a page that begins at a place. It is looked for only where
+// their sum is not zero.
+fn not_zero(page: &[u8], from: usize, place: usize) -> Spot
+    requires { ⌜ (from ≤ length (now page)) × (length (now page) ≤ 68) × (place ≤ 17952) ⌝ }
+    ensures { λ r. ⌜ r ≡ spotOf (notZero (place + from) (drop from (now (page .entry)))) ⌝ }
+{
+    if is_zero(page, from) {
+        return Spot::Nowhere;
+    }
+    let mut i = from;
+    while i < page.len() {
+        if page[i] != 0 {
+            return Spot::At(place + i);
+        }
+        i += 1;
+    }
+    Spot::Nowhere
+}
+
+// 12 pattern: "A depth above g or a pattern too large", "at that field", of a page that begins at a place.
+fn wrong_pattern(h: Header, page: &[u8], place: usize) -> Spot
+    requires { ⌜ Limits (countsOf h) × (length (now page) ≡ pageSize (h .capacity)) × (place ≤ 17952) ⌝ }
+    ensures { λ r. ⌜ r ≡ spotOf (wrongPattern (h .depth) place (now (page .entry))) ⌝ }
 {
     let depth = wire::u8_at(page, 0);
-    let count = wire::u8_at(page, 1);
     if h.depth < depth {
-        return true;
+        return Spot::At(place);
     }
     if (1 << depth) <= wire::u16_at(page, 2) {
-        return true;
+        return Spot::At(place + 2);
     }
-    if h.capacity < count {
-        return true;
-    }
-    !is_zero(page, 4 + 8 * count)
+    Spot::Nowhere
 }
 
-// 6 page, of page x, which has these bytes. A page that is not in use is bad unless it is zero, whatever else may be wrong with it.
-fn bad_page(h: Header, x: usize, page: &[u8]) -> bool
-    requires { ⌜ Limits (countsOf h) × (length (now page) ≡ pageSize (h .capacity)) ⌝ }
-    ensures { λ r. ⌜ r ≡ badPage (countsOf h) x (now (page .entry)) ⌝ }
+// "12 .., then 6, then 13": the rows of a page in use, which begins at a place.
+fn used_page_fault(h: Header, page: &[u8], place: usize) -> Checked
+    requires { ⌜ Limits (countsOf h) × (length (now page) ≡ pageSize (h .capacity)) × (place ≤ 17952) ⌝ }
+    ensures { λ r. ⌜ r ≡ checkedOf (firstRow (usedRows (countsOf h) place) (now (page .entry))) ⌝ }
 {
-    if h.used < x {
-        return !is_zero(page, 0);
+    let s = wrong_pattern(h, page, place);
+    if let Spot::At(at) = s {
+        return Checked::Refused(12, at);
     }
-    bad_used_page(h, page)
+    let count = wire::u8_at(page, 1);
+    if h.capacity < count {
+        return Checked::Refused(6, place);
+    }
+    let s = not_zero(page, 4 + 8 * count, place);
+    if let Spot::At(at) = s {
+        return Checked::Refused(13, at);
+    }
+    Checked::Accepted
 }
 
-pub fn wrong_page(job: &[u8], h: Header) -> Spot
+// "on an unused page 13 alone": the rows of page x, which has these bytes.
+fn page_fault(h: Header, x: usize, page: &[u8]) -> Checked
+    requires { ⌜ Limits (countsOf h) × (length (now page) ≡ pageSize (h .capacity)) × (1 ≤ x) × (x ≤ h .pages) ⌝ }
+    ensures { λ r. ⌜ r ≡ checkedOf (pageFault (countsOf h) x (now (page .entry))) ⌝ }
+{
+    let place = h.page_place(x);
+    if x <= h.used {
+        return used_page_fault(h, page, place);
+    }
+    let s = not_zero(page, 0, place);
+    if let Spot::At(at) = s {
+        return Checked::Refused(13, at);
+    }
+    Checked::Accepted
+}
+
+// "within each page before the next page is looked at"
+pub fn wrong_page(job: &[u8], h: Header) -> Checked
     requires { ⌜ Heads h (now job) ⌝ }
-    ensures { λ r. ⌜ r ≡ spotOf (wrongPage (now (job .entry))) ⌝ }
+    ensures { λ r. ⌜ r ≡ checkedOf (wrongPage (now (job .entry))) ⌝ }
 {
     let n = h.pages;
     let mut k: usize = 0;
     while k < n {
         let x = k + 1;
-        if bad_page(h, x, h.page(job, x)) {
-            return Spot::At(h.page_place(x));
+        let c = page_fault(h, x, h.page(job, x));
+        if let Checked::Refused(number, place) = c {
+            return Checked::Refused(number, place);
         }
         k += 1;
     }
-    Spot::Nowhere
+    Checked::Accepted
 }

@@ -1,19 +1,22 @@
 -- The laws of the bytes: a file for each theme, those that others rest on first.
--- tools: tests that do not hold, walks over a list, parts of a byte string and their places, numbers in bytes
+-- tools: tests that do not hold, walks over a list, bytes that are zero, parts of a byte string and their places, numbers in bytes
 pub mod Tools
 pub mod Walk
+pub mod Zeros
 pub mod Parts
 pub mod Numbers
 pub mod Pieces
 pub mod Places
 -- what each row of the refusal table says where it does not hold; and that no row has the number 0
 pub mod Rows
+pub mod Told
 pub mod Numbered
 pub mod Longest
 pub mod InUse
 pub mod Owner
 pub mod Records
 pub mod Pages
+pub mod Undivided
 pub mod Ops
 -- an accepted job
 pub mod Accepted

@@ -32,8 +32,8 @@ unfoldable pub among : List (Option ℕ) → Option ℕ
 among [] = none
 among (x ∷ xs) = let rest = among xs in orElse x rest
 
--- of the members of a list, numbered from i, the first for which f gives a place
-unfoldable pub firstOf : {A : Type 0} → (ℕ → A → Option ℕ) → ℕ → List A → Option ℕ
+-- of the members of a list, numbered from i, the first for which f tells something: a place, or a fault
+unfoldable pub firstOf : {A B : Type 0} → (ℕ → A → Option B) → ℕ → List A → Option B
 firstOf f i [] = none
 firstOf f i (x ∷ xs) = let rest = firstOf f (suc i) xs in orElse (f i x) rest
 

@@ -3,9 +3,7 @@ use Prim.Native.Nat.{ℕ, zero, suc, _+_, _*_, _/_, _%_, _<_}
 use Prim.Native.Char.{code}
 use Prim.Native.String.{String, [] as empty, _∷_ as _then_}
 use mathlib.Core.List.{List, [], _∷_, _++_}
-use mathlib.Core.Bool.{Bool, true, _&&_}
 use lib.ListN.{getD, take, drop}
-use lib.Dec.{eqb}
 use Rattle.spec.specs.Basics.{Each}
 
 -- each number of a byte string is a byte
@@ -33,11 +31,6 @@ four n = two (n % 65536) ++ two (n / 65536)
 unfoldable pub parts : ℕ → ℕ → List ℕ → List (List ℕ)
 parts zero size b = []
 parts (suc n) size b = take size b ∷ parts n size (drop size b)
-
--- every byte is zero
-unfoldable pub zeros : List ℕ → Bool
-zeros [] = true
-zeros (x ∷ xs) = eqb x 0 && zeros xs
 
 -- the characters of a text, as bytes
 unfoldable pub text : String → List ℕ

@@ -6,12 +6,34 @@ use mathlib.Core.Option.{Option, none, some}
 use lib.ListN.{length, take, drop}
 use lib.Dec.{ltb, leb, eqb}
 use Rattle.spec.specs.declared.Rec.{Rec}
-use Rattle.spec.specs.Basics.{when, orElse, isSome, among, firstOf, anyOf}
-use Rattle.spec.specs.Bytes.{byte, word, long, zeros}
+use Rattle.spec.specs.Basics.{if, when, orElse, isSome, among, firstOf, anyOf}
+use Rattle.spec.specs.Bytes.{byte, word, long}
 use Rattle.spec.specs.Key.{index, begins}
 use Rattle.spec.specs.File.{Page, File, pageAt, pagesInUse, findIn}
 use Rattle.spec.specs.Job.{minDepth, maxDepth, minCapacity, maxCapacity, minPages, maxPages, minOps, maxOps, minTurns, maxTurns, Header, headerSize, jobVersion, versionAt, gAt, cAt, limitAt, usedAt, opCountAt, turnCountAt, directoryOffsetAt, tableOffsetAt, opsOffsetAt, turnsOffsetAt, totalAt, recordSize, directoryOffset, tableOffset, opsOffset, turnsOffset, total, entryPlace, pagePlace, recordPlace, opPlace, turnPlace, fileLength}
 use Rattle.spec.specs.Decode.{headerOf, fileOf, pageParts, opParts, turnParts, numberOf}
+
+-- "A refusal gives the number and a place"
+pub record Fault : Type 0 where
+  pub number : ℕ
+  pub place : ℕ
+
+unfoldable pub numbered : ℕ → Option ℕ → Option Fault
+numbered n none = none
+numbered n (some p) = some (record { number = n; place = p })
+
+-- A row of the table tells the fault that it finds in a job's bytes, or in a page's. Most have one number, and a test that tells the lowest place
+-- at which the row holds.
+abbrev pub Refusal : Type 0
+Refusal = List ℕ → Option Fault
+
+abbrev pub row : ℕ → (List ℕ → Option ℕ) → Refusal
+row n test b = numbered n (test b)
+
+-- the fault of the first of some rows, in the list's order, that finds one
+unfoldable pub firstRow : List Refusal → Refusal
+firstRow [] b = none
+firstRow (r ∷ rs) b = let rest = firstRow rs b in orElse (r b) rest
 
 unfoldable pub outside : ℕ → ℕ → ℕ → Bool
 outside least most n = ltb n least || ltb most n
@@ -56,19 +78,36 @@ entryFault used j x = when (outside 1 used x) (entryPlace j)
 unfoldable pub wrongEntry : List ℕ → Option ℕ
 wrongEntry b = let f = fileOf b in firstOf (entryFault (f .used)) 0 (f .directory)
 
--- 6 page: "l above g, pattern 2^l or more, count above c, or an unused record or unused page not zero". Page x has the bytes p
-unfoldable pub badPage : Header → ℕ → List ℕ → Bool
-badPage h x p =
-    ltb (h .g) (byte p 0)
-    || leb (2 ^ byte p 0) (word p 2)
-    || ltb (h .c) (byte p 1)
-    || not (zeros (drop (4 + recordSize * byte p 1) p))
-    || (ltb (h .used) x && not (zeros p))
+-- 12 pattern: "A depth above g or a pattern too large", "at that field". The page's bytes are p, and it begins at place a
+unfoldable pub wrongPattern : ℕ → ℕ → List ℕ → Option ℕ
+wrongPattern g a p = among (when (ltb g (byte p 0)) a ∷ when (leb (2 ^ byte p 0) (word p 2)) (a + 2) ∷ [])
 
-unfoldable pub pageFault : Header → ℕ → List ℕ → Option ℕ
-pageFault h x p = when (badPage h x p) (pagePlace h x)
+-- 6 page: "Refusal 6 keeps the record count": above c
+unfoldable pub overCount : ℕ → ℕ → List ℕ → Option ℕ
+overCount c a p = when (ltb c (byte p 1)) a
 
-unfoldable pub wrongPage : List ℕ → Option ℕ
+-- 13 zero: "at the first byte that should be zero and is not". The bytes s should be zero, and the first of them stands at place a
+unfoldable pub notZero : ℕ → List ℕ → Option ℕ
+notZero a s = firstOf (λ i x. when (not (eqb x 0)) i) a s
+
+-- 13 in a page in use: "an unused record .. not zero"
+unfoldable pub notCleared : ℕ → List ℕ → Option ℕ
+notCleared a p = let n = 4 + recordSize * byte p 1 in notZero (a + n) (drop n p)
+
+-- "Checks: 12 .., then 6, then 13 .., within each page": the rows of a page in use that begins at place a
+abbrev pub usedRows : Header → ℕ → List Refusal
+usedRows h a = row 12 (wrongPattern (h .g) a) ∷ row 6 (overCount (h .c) a) ∷ row 13 (notCleared a) ∷ []
+
+-- "and on an unused page 13 alone"
+abbrev pub unusedRows : ℕ → List Refusal
+unusedRows a = row 13 (notZero a) ∷ []
+
+-- the first fault of page x, which has the bytes p
+unfoldable pub pageFault : Header → ℕ → List ℕ → Option Fault
+pageFault h x p = let a = pagePlace h x in firstRow (if (ltb (h .used) x) (unusedRows a) (usedRows h a)) p
+
+-- "within each page before the next page is looked at"
+unfoldable pub wrongPage : Refusal
 wrongPage b = let h = headerOf b in firstOf (pageFault h) 1 (pageParts h b)
 
 -- the pattern of a page begins entry j
@@ -139,25 +178,8 @@ smallOutput l b =
     let h = headerOf b in
     among (when (ltb (l .result) (resultSize h)) 0 ∷ when (ltb (l .rows) (h .ops)) 1 ∷ when (ltb (l .work) workSize) 2 ∷ [])
 
--- "A refusal gives the number and a place"
-pub record Fault : Type 0 where
-  pub number : ℕ
-  pub place : ℕ
-
-unfoldable pub numbered : ℕ → Option ℕ → Option Fault
-numbered n none = none
-numbered n (some p) = some (record { number = n; place = p })
-
--- A row of the table: its number, and a test that tells the lowest place of a job's bytes at which the row holds.
-pub record Refusal : Type 0 where
-  pub number : ℕ
-  pub test : List ℕ → Option ℕ
-
-abbrev pub row : ℕ → (List ℕ → Option ℕ) → Refusal
-row n t = record { number = n; test = t }
-
--- "Checked by rising number except that 11 comes last, then by lowest place": the rows that are about a job's bytes alone, in the order in which
--- they are checked
+-- "Checked by rising number except that 11 comes last", and that 12, 6 and 13 stand "where 6 stood": the rows that are about a job's bytes alone, in
+-- the order in which they are checked
 abbrev pub rows : List Refusal
 rows =
     row 1 short
@@ -165,19 +187,14 @@ rows =
     ∷ row 3 overLimit
     ∷ row 4 wrongOffset
     ∷ row 5 wrongEntry
-    ∷ row 6 wrongPage
+    ∷ wrongPage  -- 12, 6 and 13, page by page
     ∷ row 7 wrongOwner
     ∷ row 8 wrongRecord
     ∷ row 9 wrongOp
     ∷ row 10 wrongTurn
     ∷ []
 
--- the first of some rows, in the list's order, that holds
-unfoldable pub firstRow : List Refusal → List ℕ → Option Fault
-firstRow [] b = none
-firstRow (r ∷ rs) b = let rest = firstRow rs b in orElse (numbered (r .number) (r .test b)) rest
-
-unfoldable pub jobFault : List ℕ → Option Fault
+unfoldable pub jobFault : Refusal
 jobFault b = firstRow rows b
 
 -- all rows: 11 asks what is lent too, and comes last

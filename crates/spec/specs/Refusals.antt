@@ -54,7 +54,7 @@ edits =
     ∷ other (take 31 base) 1 31
     ∷ other (base ++ (0 ∷ [])) 4 28  -- length not the total
     ∷ other (take 119 base) 4 28
-    ∷ other (set (set base 76 1) 32 0) 5 32  -- two faults: the lower number
+    ∷ other (set (set base 76 1) 32 0) 5 32  -- two faults: the earlier row
     ∷ other (set (set base 116 2) 68 1) 8 68
     ∷ other (set (set base 118 2) 116 2) 10 116  -- the lower place
     ∷ edit 0 2 2 0  -- version
@@ -79,13 +79,28 @@ edits =
     ∷ edit 10 1 4 28  -- and the total
     ∷ edit 32 0 5 32  -- entry 0
     ∷ edit 34 3 5 34  -- above U, and not above P
-    ∷ edit 36 2 6 36  -- l above g
-    ∷ edit 38 2 6 36  -- pattern 2^l
+    ∷ edit 36 2 12 36  -- l above g
+    ∷ edit 38 2 12 38  -- pattern 2^l
+    ∷ edit 59 1 12 58
+    ∷ other (set (set base 38 4) 36 2) 12 36  -- both: the depth
     ∷ edit 57 3 6 56  -- count above c
-    ∷ edit 48 1 6 36  -- an unused record
-    ∷ edit 55 1 6 36  -- its last byte
-    ∷ edit 76 1 6 76  -- an unused page
-    ∷ edit 95 1 6 76  -- its last byte
+    ∷ edit 48 1 13 48  -- an unused record
+    ∷ edit 55 1 13 55  -- its last byte
+    ∷ other (set (set base 55 1) 50 1) 13 50  -- the first of two bytes
+    ∷ edit 76 9 13 76  -- an unused page: what would be its depth
+    ∷ edit 77 9 13 77  -- its count
+    ∷ edit 79 1 13 79  -- its pattern
+    ∷ edit 95 1 13 95  -- its last byte
+    ∷ other (set (set base 78 1) 77 9) 13 77
+    ∷ other (set (set base 57 3) 56 2) 12 56  -- within a page: 12 before 6
+    ∷ other (set (set base 57 3) 58 2) 12 58
+    ∷ other (set (set base 48 1) 38 2) 12 38  -- 12 before 13
+    ∷ other (set (set base 56 2) 48 1) 13 48  -- the earlier page first: 13 there before 12, and before 6
+    ∷ other (set (set base 57 3) 48 1) 13 48
+    ∷ other (set (set base 58 2) 37 3) 6 36  -- 6 there before 12
+    ∷ other (set (set base 76 1) 57 3) 6 56  -- the unused page comes behind
+    ∷ other (set (set base 95 1) 34 3) 5 34  -- 5 before them
+    ∷ other (set (set base 95 1) 34 1) 13 95  -- 7 after them
     ∷ edit 34 1 7 34  -- its page's pattern does not begin j
     ∷ edit 32 2 7 32
     ∷ edit 36 0 7 34  -- another page's does

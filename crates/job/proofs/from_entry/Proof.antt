@@ -1,8 +1,9 @@
-use mathlib.Core.Path.{_≡_}
+use mathlib.Core.Path.{_≡_, sym, _∙_}
 use mathlib.Core.Option.{none}
 use native.Mathlib.Omega.{arith}
 use Rattle.spec.specs.Check.{wrongEntry, wrongPage}
-use Rattle.job.proofs.Refused.{passed, row-hit, row-next}
+use Rattle.job.specs.Answer.{accepted}
+use Rattle.job.proofs.Refused.{passed, told, untold, row-hit, row-next}
 use Rattle.job.proofs.from_entry.Statement.{statement}
 use Rattle.job.proofs.from_entry.Tie as tie
 
@@ -10,7 +11,7 @@ none1 : (c : tie.After-enum-told) → wrongEntry (c .before .before .before .bef
 none1 c = passed _ _ (c .before .before .wrong-entry .ensures) (c .enum-told .given .1)
 
 none2 : (c : tie.After-enum-told2) → wrongPage (c .before .before .before .before .before .before .before .args .job .now) ≡ none
-none2 c = passed _ _ (c .before .before .wrong-page .ensures) (c .enum-told2 .given .1)
+none2 c = accepted _ (sym (c .enum-told2 .given .1) ∙ c .before .before .wrong-page .ensures)
 
 wrong-entry-requires : tie.Need-wrong-entry-requires
 wrong-entry-requires c κs = c .before .pre
@@ -27,13 +28,13 @@ enum-told c = omega arith
 wrong-page-requires : tie.Need-wrong-page-requires
 wrong-page-requires c κs = c .before .before .before .before .pre
 
-enum-known-s-2 : tie.Need-enum-known-s-2
-enum-known-s-2 c = omega arith
+enum-known-c : tie.Need-enum-known-c
+enum-known-c c = omega arith
 
 returns-2 : tie.Need-returns-2
 returns-2 c =
     let q = c .before .before .before in
-    row-next 5 wrongEntry _ _ _ (none1 (q .before)) (row-hit 6 wrongPage _ _ _ _ (q .wrong-page .ensures) (c .before .s2 .given .1))
+    row-next 5 wrongEntry _ _ _ (none1 (q .before)) (told wrongPage _ _ _ _ (sym (c .before .c .given .1) ∙ q .wrong-page .ensures))
 
 enum-told-2 : tie.Need-enum-told-2
 enum-told-2 c = omega arith
@@ -44,7 +45,7 @@ from-owner-requires c κs = record { heads = c .before .before .before .before .
 returns-3 : tie.Need-returns-3
 returns-3 c =
     let q = c .before in
-    row-next 5 wrongEntry _ _ _ (none1 (q .before .before .before)) (row-next 6 wrongPage _ _ _ (none2 q) (c .from-owner .ensures))
+    row-next 5 wrongEntry _ _ _ (none1 (q .before .before .before)) (untold wrongPage _ _ _ (none2 q) (c .from-owner .ensures))
 
 pub from-entry-spec : {M : Type 1} → statement M
 from-entry-spec =
@@ -55,7 +56,7 @@ from-entry-spec =
     returns
     enum-told
     wrong-page-requires
-    enum-known-s-2
+    enum-known-c
     returns-2
     enum-told-2
     from-owner-requires

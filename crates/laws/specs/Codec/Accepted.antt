@@ -9,7 +9,6 @@ use native.Mathlib.Omega.{arith}
 use native.Mathlib.Decide.{decLt}
 use lib.ListN.{length, getD, List·getD-eq-default}
 use Rattle.spec.specs.Basics.{Each}
-use Rattle.spec.specs.Bytes.{zeros}
 use Rattle.spec.specs.File.{zeroPage, pageAt, entryAt}
 use Rattle.spec.specs.Decode.{headerOf, pageParts, turnParts, numberOf, fileOf, jobOf}
 use Rattle.spec.specs.Check.{overLimit, wrongEntry, wrongPage, wrongOwner, wrongRecord, wrongTurn, jobFault}
@@ -18,6 +17,7 @@ use Rattle.laws.specs.Codec.Tools.{each-map}
 use Rattle.laws.specs.Codec.Rows.{Rows, accepted-rows, limits-said, counted}
 use Rattle.laws.specs.Codec.Owner.{entries-said, Owners, owners-said}
 use Rattle.laws.specs.Codec.Records.{records-said}
+use Rattle.laws.specs.Codec.Zeros.{zeros}
 use Rattle.laws.specs.Codec.Pages.{PageFine, pages-said, page-proper, zero-page, length-pages, page-at}
 use Rattle.laws.specs.Codec.Ops.{turns-said}
 
@@ -47,12 +47,12 @@ module _ (b : List ℕ) (rows : Rows b) where
   proper : Fit (fileOf b)
   proper = fit b (rows .r3) (rows .r5)
 
-  -- row 6
+  -- rows 12, 6 and 13
   pub fine : (k : ℕ) → k < headerOf b .limit → PageFine (headerOf b) (suc k) (getD (pageParts (headerOf b) b) k [])
   unfolding wrongPage
   fine k l = pages-said (headerOf b) (pageParts (headerOf b) b) .0 (rows .r6) k (rw length-pages l)
 
-  -- rows 6 and 8
+  -- and 8
   page-ok : (x : ℕ) → PageNo (fileOf b) x → PageOk (fileOf b .g) (fileOf b .c) (pageAt (fileOf b) x)
   unfolding fileOf wrongRecord
   page-ok zero n = absurd (omega arith)
@@ -60,7 +60,7 @@ module _ (b : List ℕ) (rows : Rows b) where
       let r = records-said (headerOf b) (fileOf b) (proper .within) (proper .pages) .0 (rows .r8) (suc k) n in
       rw page-at (page-proper (fine k (omega (arith, proper .within))) (rw page-at at r))
 
-  -- row 6: a page that is not in use
+  -- row 13: a page that is not in use
   unused : (x : ℕ) → (PageNo (fileOf b) x → ⊥) → pageAt (fileOf b) x ≡ zeroPage
   unfolding fileOf pageAt zeros
   unused zero h = refl

@@ -1,15 +1,14 @@
 -- Numbers in bytes: a number of 2 or 4 bytes that fits comes back, and what is read of bytes fits and is written as these bytes.
 use Prim.Native.Nat.{ℕ, zero, suc, _+_, _*_, _/_, _%_, _<_, _≤_}
-use mathlib.Core.Path.{_≡_, refl}
+use mathlib.Core.Path.{_≡_}
 use mathlib.Core.List.{List, [], _∷_, _++_}
-use mathlib.Core.Bool.{true, and-eq-true-iff}
 use native.Mathlib.Omega.{arith}
 use native.Mathlib.Nat.{add-zero, add-comm, add-mul-mod-self-left, mod-eq-of-lt, mul-add-div, div-eq-of-lt}
-use lib.ListN.{length, take, drop, replicate}
+use lib.ListN.{length, take, drop}
 use Rattle.spec.specs.Basics.{Each, end, next}
-use Rattle.spec.specs.Bytes.{AreBytes, byte, word, long, two, four, parts, zeros}
+use Rattle.spec.specs.Bytes.{AreBytes, byte, word, long, two, four, parts}
 use Rattle.laws.specs.Tools.{each-or}
-use Rattle.laws.specs.Codec.Tools.{eqb-yes, each-imp₂}
+use Rattle.laws.specs.Codec.Tools.{each-imp₂}
 use Rattle.laws.specs.Codec.Parts.{parts-size}
 
 -- a number that fits comes back
@@ -76,15 +75,3 @@ pub record Whole (n : ℕ) (p : List ℕ) : Type 0 where
 
 pub parts-whole : (n size : ℕ) (b : List ℕ) → AreBytes b → size * n ≤ length b → Each (Whole size) (parts n size b)
 parts-whole n size b h l = each-imp₂ (λ p s t. record { size = s; bytes = t }) (parts-size n size b l) (parts-bytes n size b h)
-
--- zeros
-pub zeros-byte : (b : List ℕ) → zeros b ≡ true → (p : ℕ) → byte b p ≡ 0
-unfolding zeros byte
-zeros-byte [] e p = refl
-zeros-byte (x ∷ b) e zero = (simp (and-eq-true-iff, eqb-yes) at e) .0
-zeros-byte (x ∷ b) e (suc p) = zeros-byte b ((simp and-eq-true-iff at e) .1) p
-
-pub zeros-replicate : (n : ℕ) → zeros (replicate n 0) ≡ true
-unfolding zeros
-zeros-replicate zero = refl
-zeros-replicate (suc n) = zeros-replicate n

@@ -7,8 +7,9 @@ use native.Mathlib.Omega.{arith}
 use native.Mathlib.Numerals.{add-one}
 use lib.ListN.{length, getD, take, drop, replicate, length-replicate, getD-replicate}
 use lib.Seq.{drop-cons, take-add, take-all, drop-drop, ext-getD}
-use Rattle.spec.specs.Bytes.{AreBytes, byte, word, long, two, four, zeros}
-use Rattle.laws.specs.Codec.Numbers.{byte-lt, word-lt, two-read, four-read, zeros-byte}
+use Rattle.spec.specs.Bytes.{AreBytes, byte, word, long, two, four}
+use Rattle.laws.specs.Codec.Numbers.{byte-lt, word-lt, two-read, four-read}
+use Rattle.laws.specs.Codec.Zeros.{zeros, zeros-byte}
 
 -- x is the n bytes of b from place p on
 pub record Piece (b x : List ℕ) (p n : ℕ) : Type 0 where

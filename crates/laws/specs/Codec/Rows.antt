@@ -1,4 +1,4 @@
--- A job is accepted exactly if none of rows 1 to 10 holds; and what rows 1 to 4, the rows about the header, say where they do not hold.
+-- A job is accepted exactly if no row about its bytes holds; and what rows 1 to 4, the rows about the header, say where they do not hold.
 use Prim.Native.Nat.{ℕ, suc, _^_, _≤_}
 use mathlib.Core.Path.{_≡_}
 use mathlib.Core.Logic.{_↔_}
@@ -10,7 +10,7 @@ use Rattle.spec.specs.Bytes.{word, long}
 use Rattle.spec.specs.Job.{Header, maxDepth, minCapacity, maxCapacity, minPages, maxPages, maxOps, maxTurns, headerSize, jobVersion, versionAt, directoryOffsetAt, tableOffsetAt, opsOffsetAt, turnsOffsetAt, totalAt, directoryOffset, tableOffset, opsOffset, turnsOffset, total}
 use Rattle.spec.specs.Decode.{headerOf, fileOf, entryParts, pageParts, opParts, turnParts, jobOf}
 use Rattle.spec.specs.Check.{short, wrongVersion, overLimit, wrongOffset, wrongEntry, wrongPage, wrongOwner, wrongRecord, wrongOp, wrongTurn, jobFault}
-use Rattle.laws.specs.Codec.Tools.{failed, among-none, among-end, row-none, row-end}
+use Rattle.laws.specs.Codec.Tools.{failed, among-none, among-end, numbered-none, row-none, row-end}
 use Rattle.laws.specs.Codec.Parts.{length-parts}
 
 -- no row holds
@@ -28,7 +28,7 @@ pub record Rows (b : List ℕ) : Type 0 where
 
 pub accepted-rows : (b : List ℕ) → jobFault b ≡ none ↔ Rows b
 unfolding jobFault
-accepted-rows b = simp (row-none, row-end) (λ e. search, λ r. search)
+accepted-rows b = simp (row-none, row-end, numbered-none) (λ e. search, λ r. search)
 
 -- row 3: the limits (a lower limit of 0 says nothing)
 pub record Limits (h : Header) : Type 0 where

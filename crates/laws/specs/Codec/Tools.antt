@@ -73,14 +73,14 @@ pub among-end : among [] ≡ none ↔ Unit {0}
 unfolding among
 among-end = (λ e. tt, λ u. refl)
 
-numbered-none : (n : ℕ) (x : Option ℕ) → numbered n x ≡ none ↔ x ≡ none
+pub numbered-none : (n : ℕ) (x : Option ℕ) → numbered n x ≡ none ↔ x ≡ none
 unfolding numbered
 numbered-none n none = (λ e. refl, λ e. refl)
 numbered-none n (some p) = (λ e. absurd (Option·none-ne-some _ (sym e)), λ e. absurd (Option·none-ne-some _ (sym e)))
 
-pub row-none : (r : Refusal) (rs : List Refusal) (b : List ℕ) → firstRow (r ∷ rs) b ≡ none ↔ (r .test b ≡ none) × (firstRow rs b ≡ none)
+pub row-none : (r : Refusal) (rs : List Refusal) (b : List ℕ) → firstRow (r ∷ rs) b ≡ none ↔ (r b ≡ none) × (firstRow rs b ≡ none)
 unfolding firstRow
-row-none r rs b = simp (orElse-none, numbered-none) Iff·rfl
+row-none r rs b = orElse-none (r b) (firstRow rs b)
 
 pub row-end : (b : List ℕ) → firstRow [] b ≡ none ↔ Unit {0}
 unfolding firstRow

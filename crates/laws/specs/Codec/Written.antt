@@ -11,7 +11,7 @@ use Rattle.spec.specs.declared.Kind.{Kind}
 use Rattle.spec.specs.declared.Kind.the-variants.{Search, Insert, Delete}
 use Rattle.spec.specs.declared.Op.{Op}
 use Rattle.spec.specs.Basics.{each}
-use Rattle.spec.specs.Bytes.{byte, word, long, two, four, zeros}
+use Rattle.spec.specs.Bytes.{byte, word, long, two, four}
 use Rattle.spec.specs.File.{Page, File, zeroPage, entryAt}
 use Rattle.spec.specs.Job.{Job, fileJob, Header, kindNumber, tableOffset, opsOffset, turnsOffset, total}
 use Rattle.spec.specs.Encode.{headerBytes, recordBytes, pageBytes, opBytes, headerFor, encodeJob, encodeFile}
@@ -20,7 +20,8 @@ use Rattle.spec.specs.Check.{wrongEntry, wrongPage, wrongOwner, wrongRecord, wr
 use Rattle.spec.specs.Proper.{PageOk, FileOk}
 use Rattle.laws.specs.Tools.{each-imp}
 use Rattle.laws.specs.Codec.Tools.{getD-map, each-map, each-places}
-use Rattle.laws.specs.Codec.Numbers.{word-two, long-four, zeros-replicate}
+use Rattle.laws.specs.Codec.Numbers.{word-two, long-four}
+use Rattle.laws.specs.Codec.Zeros.{zeros, zeros-replicate}
 use Rattle.laws.specs.Codec.Rows.{accepted-rows, Limits, limits-said, Laid, header-said}
 use Rattle.laws.specs.Codec.InUse.{page-behind}
 use Rattle.laws.specs.Codec.Owner.{entries-said, owners-said}
@@ -32,7 +33,7 @@ use Rattle.laws.specs.Codec.Back.{JobFits, number-back, sized, head-back
 use Rattle.laws.specs.Codec.Longest.{total-most}
 use Rattle.laws.specs.Codec.Proper.{RecordsFit, OpProper, JobProper, pages-proper, job-fits, file-proper}
 
--- a page's bytes pass row 6
+-- a page's bytes pass rows 12, 6 and 13
 rest-zero : (c : ℕ) (p : Page) → zeros (drop (4 + 8 * length (p .records)) (pageBytes c p)) ≡ true
 unfolding pageBytes two
 rest-zero c p =

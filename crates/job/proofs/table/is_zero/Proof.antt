@@ -4,7 +4,7 @@ use Prim.Native.Nat.{_-_, _*_, _≤_}
 use native.Mathlib.Omega.{arith}
 use lib.Dec.{eqb}
 use lib.ListN.{length, drop}
-use Rattle.spec.specs.Bytes.{zeros}
+use Rattle.laws.specs.Codec.Zeros.{zeros}
 use Rattle.job.proofs.Zeros.{zeros-sum, zeros-all}
 use Rattle.job.proofs.table.is_zero.Statement.{statement}
 use Rattle.job.proofs.table.is_zero.Tie as tie

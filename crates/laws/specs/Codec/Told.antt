@@ -1,0 +1,36 @@
+-- What is so of every fault that a row tells, is so of what a list of rows tells, and a walk.
+use Prim.Native.Nat.{ℕ, suc}
+use mathlib.Core.Path.{_≡_, refl, subst}
+use mathlib.Core.List.{List, [], _∷_}
+use mathlib.Core.Option.{Option, none, some, Option·none-ne-some}
+use Rattle.spec.specs.Basics.{orElse, firstOf, Each}
+use Rattle.spec.specs.Check.{Fault, numbered, Refusal, firstRow}
+use Rattle.laws.specs.Tools.{first, rest}
+
+-- a fault that is told has the property P
+abbrev pub Tells : (Fault → Type 0) → Option Fault → Type 0
+Tells P o = (f : Fault) → o ≡ some f → P f
+
+module _ (P : Fault → Type 0) where
+  tells-none : Tells P none
+  tells-none f e = absurd (Option·none-ne-some _ e)
+
+  pub tells-either : (x y : Option Fault) → Tells P x → Tells P y → Tells P (orElse x y)
+  unfolding orElse
+  tells-either none y h k = k
+  tells-either (some f) y h k = h
+
+  pub tells-row : (n : ℕ) (x : Option ℕ) → ((p : ℕ) → x ≡ some p → P (record { number = n; place = p })) → Tells P (numbered n x)
+  unfolding numbered
+  tells-row n none h = tells-none
+  tells-row n (some p) h = λ f e. let g : record { number = n; place = p } ≡ f = cc in subst P g (h p refl)
+
+  pub tells-rows : (rs : List Refusal) (b : List ℕ) → Each (λ r. Tells P (r b)) rs → Tells P (firstRow rs b)
+  unfolding firstRow
+  tells-rows [] b h = tells-none
+  tells-rows (r ∷ rs) b h = tells-either _ _ (first h) (tells-rows rs b (rest h))
+
+  pub tells-walk : {A : Type 0} (f : ℕ → A → Option Fault) (i : ℕ) (xs : List A) → ((k : ℕ) (x : A) → Tells P (f k x)) → Tells P (firstOf f i xs)
+  unfolding firstOf
+  tells-walk f i [] h = tells-none
+  tells-walk f i (x ∷ xs) h = tells-either _ _ (h i x) (tells-walk f (suc i) xs h)
