@@ -6,7 +6,7 @@ use crate::header::{by_length, Header};
 use crate::key::{low_bits, reversed};
 use crate::{exact, page, Refusal};
 
-/// Rows 1 to 10 of the refusal table.
+/// Every row of the refusal table but 11.
 pub fn check(job: &[u8]) -> Result<(), Refusal> {
     accepted(job).map(|_| ())
 }
@@ -83,8 +83,8 @@ fn turns_sound(turns: &[[u8; 2]], operations: usize) -> bool {
     above == 0
 }
 
-/// Rows 5 to 8. Rows 5 and 7 hold for no entry exactly when every page in use is named by all the entries that its pattern begins,
-/// and these are together as many as there are entries: then none of them has two owners, and none is left over.
+/// Rows 5 to 8, 12 and 13. Rows 5 and 7 hold for no entry exactly when every page in use is named by all the entries that its pattern
+/// begins, and these are together as many as there are entries: then none of them has two owners, and none is left over.
 #[inline(never)]
 fn pages_sound<const N: usize>(table: &[u8], directory: &[[u8; 2]], header: &Header) -> bool {
     let (in_use, unused) = table.split_at(header.in_use * N);

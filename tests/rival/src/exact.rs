@@ -1,16 +1,17 @@
-//! Number and place of a refusal, row by row as the table has them: only for jobs that the quick check does not accept, so not tuned.
+//! Number and place of a refusal, row by row in the order in which they are tried: only for jobs that the quick check does not accept, so not tuned.
 
 use crate::bytes::{four_at, two_at};
 use crate::header::{Header, HEADER_LENGTH, OPERATION_LENGTH, TURN_LENGTH};
 use crate::Refusal;
 
-/// The lowest place at which a row meets the job, if it does. No row with a lower number meets it.
+/// The lowest place at which a row meets the job, if it does. No row that is tried before it meets the job.
 type Row = fn(&[u8], &Header) -> Option<usize>;
 
-/// Rows 3 to 10.
-const ROWS: [Row; 8] = [limit, offset, entry, page, owner, record, operation, turn];
+/// The rows behind 1 and 2, with their numbers, in two parts: between them the pages are looked through for 12, 6 and 13 (`page`).
+const BEFORE_PAGES: [(u32, Row); 3] = [(3, limit), (4, offset), (5, entry)];
+const AFTER_PAGES: [(u32, Row); 4] = [(7, owner), (8, record), (9, operation), (10, turn)];
 
-/// The refusal of a job that some row meets: rows by rising number, then the lowest place.
+/// The refusal of a job that some row meets: the first row that does, at its lowest place.
 #[cold]
 #[inline(never)]
 pub fn refusal(job: &[u8]) -> Refusal {
@@ -21,8 +22,12 @@ pub fn refusal(job: &[u8]) -> Refusal {
         return (2, 0);
     }
     let header = Header::read(bytes);
-    let met = |(number, row): (u32, &Row)| row(job, &header).map(|place| (number, place));
-    (3..).zip(&ROWS).find_map(met).expect("a row meets the job")
+    let met = |(number, row): &(u32, Row)| row(job, &header).map(|place| (*number, place));
+    let before = BEFORE_PAGES.iter().find_map(met);
+    let here = || page(job, &header);
+    let after = || AFTER_PAGES.iter().find_map(met);
+    let first = before.or_else(here).or_else(after);
+    first.expect("a row meets the job")
 }
 
 fn limit(_: &[u8], header: &Header) -> Option<usize> {
@@ -71,21 +76,32 @@ fn page_place(header: &Header, x: usize) -> usize {
     header.table_at() + (x - 1) * header.page_length()
 }
 
-fn page(job: &[u8], header: &Header) -> Option<usize> {
-    let nonzero = |bytes: &[u8]| bytes.iter().any(|byte| *byte != 0);
-    let wrong = |x: &usize| {
-        let page = page_bytes(job, header, *x);
-        if *x > header.in_use {
-            return nonzero(page);
-        }
-        let (local, count) = (page[0] as u32, page[1] as usize);
-        local > header.depth
-            || two_at(page, 2) >> local != 0
-            || count > header.capacity
-            || nonzero(&page[4 + 8 * count..])
+/// Rows 12, 6 and 13, all three on a page before the next page is looked at.
+fn page(job: &[u8], header: &Header) -> Option<Refusal> {
+    (1..=header.pages).find_map(|x| {
+        let (number, at) = page_fault(page_bytes(job, header, x), header, x <= header.in_use)?;
+        Some((number, page_place(header, x) + at))
+    })
+}
+
+/// The first of them on one page, its place counted from the page's start: the field (12), the page (6) or the byte itself (13).
+fn page_fault(page: &[u8], header: &Header, in_use: bool) -> Option<Refusal> {
+    let (local, count) = (page[0] as u32, page[1] as usize);
+    let nonzero_from = |first: usize| {
+        let at = (first..page.len()).find(|at| page[*at] != 0)?;
+        Some((13, at))
     };
-    let x = (1..=header.pages).find(wrong)?;
-    Some(page_place(header, x))
+    if !in_use {
+        nonzero_from(0)
+    } else if local > header.depth {
+        Some((12, 0))
+    } else if two_at(page, 2) >> local != 0 {
+        Some((12, 2))
+    } else if count > header.capacity {
+        Some((6, 0))
+    } else {
+        nonzero_from(4 + 8 * count)
+    }
 }
 
 fn owner(job: &[u8], header: &Header) -> Option<usize> {

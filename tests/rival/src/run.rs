@@ -8,7 +8,7 @@ use crate::result::{self, Contents, ANSWER_LENGTH, LINE_LENGTH, RESULT_HEADER_LE
 use crate::tables::{at_start, Next, Shared, MEMORY_LENGTH};
 use crate::Refusal;
 
-/// Checks a job, runs it and writes its result: gives its length, or the refusal, rows 1 to 11.
+/// Checks a job, runs it and writes its result: gives its length, or the refusal, by any row.
 pub fn run(
     job: &[u8],
     result: &mut [u8],
