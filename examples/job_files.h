@@ -43,8 +43,9 @@ static inline void put_number(uint8_t *at, unsigned size, uint32_t number)
 /* Whether a job was accepted; if not, says number, place and word (docs/FORMAT.md, "Refusals"). */
 static inline bool was_accepted(const char *program, chargefile_outcome told)
 {
-    static const char *const words[] = {"short", "version", "limit",     "offset", "entry", "page",
-                                        "owner", "record",  "operation", "turn",   "output"};
+    static const char *const words[] = {"short",  "version", "limit",  "offset",    "entry",
+                                        "page",   "owner",   "record", "operation", "turn",
+                                        "output", "pattern", "zero"};
     if (told.refusal == CHARGEFILE_ACCEPTED) {
         return true;
     }

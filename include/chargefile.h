@@ -13,7 +13,7 @@
  *   - A refused job has written to no lent memory whatever: every lent byte and row is what it was.
  *     (Number and place of the refusal are returned by value.)
  *   - The job's own bytes are never written.
- *   - Refusal 0 is told exactly when no row of the refusal table holds (for a check, 1 to 10).
+ *   - Refusal 0 is told exactly when no row of the refusal table holds; a check leaves row 11 out.
  *   - A job that meets no row of the refusal table is run. What then stands in the result buffer is
  *     explained by its own log: the answered operations done one at a time in the log's order, on a
  *     plain list of calls, get the same answers and leave the calls that the file then holds. Its
@@ -77,6 +77,13 @@ extern "C" {
 #define CHARGEFILE_AT_OPERATIONS_OFFSET 20u
 #define CHARGEFILE_AT_TURNS_OFFSET 24u
 #define CHARGEFILE_AT_TOTAL 28u
+
+/* ---- Where the fields of a page stand, counted in bytes from the page's start. Refusal 12 has the
+ * depth or the pattern for its place. Records follow, behind CHARGEFILE_PAGE_HEAD_SIZE bytes. */
+
+#define CHARGEFILE_PAGE_AT_DEPTH 0u   /* 1 byte: l */
+#define CHARGEFILE_PAGE_AT_COUNT 1u   /* 1 byte: how many records */
+#define CHARGEFILE_PAGE_AT_PATTERN 2u /* 2 bytes: a number of l bits */
 
 /* ---- Sizes in bytes of the parts of a job and of a result. */
 
@@ -158,8 +165,10 @@ static inline size_t chargefile_result_size(const uint8_t *job, size_t job_lengt
 }
 
 /*
- * ---- Refusals. Rows are tried by rising number, and within a row the lowest place is told. Places
- * count bytes from the job's start, but for 1 and 11. docs/FORMAT.md finds the field of any place.
+ * ---- Refusals. Rows are tried in the order of this table, which is not quite that of the numbers,
+ * and within a row the lowest place is told. 12, 6 and 13 go page by page: all three are tried on
+ * page 1, then all three on page 2, and so on. Places count bytes from the job's start, but for 1
+ * and 11. docs/FORMAT.md finds the field of any place.
  *
  *   No.  When                                                        Place
  *    1   the job is under 32 bytes                                   its length
@@ -168,9 +177,11 @@ static inline size_t chargefile_result_size(const uint8_t *job, size_t job_lengt
  *    4   an offset or the total is not as computed                   the field
  *        the length is not the total                                 28
  *    5   an entry is 0 or above U                                    the entry
- *    6   a page's depth is above g, its pattern has more bits than   the page
- *        its depth, its count is above c, or an unused record or
- *        unused page is not zero
+ *   12   the depth of a page in use is above g                       the depth
+ *        its pattern has more bits than its depth                    the pattern
+ *    6   its record count is above c                                 the page
+ *   13   a byte behind its last record is not zero, or any byte of   the byte
+ *        a page that is not in use
  *    7   an entry's page does not own it, or another page does too   the entry
  *    8   a call is in the wrong page, or twice in its page           the (later) record
  *    9   a kind is not 1 to 3, or a spare byte is not zero, or the   the operation
@@ -185,12 +196,14 @@ enum chargefile_refusal {
     CHARGEFILE_REFUSED_LIMIT = 3,
     CHARGEFILE_REFUSED_OFFSET = 4,
     CHARGEFILE_REFUSED_ENTRY = 5,
-    CHARGEFILE_REFUSED_PAGE = 6,
+    CHARGEFILE_REFUSED_PAGE = 6, /* its record count */
     CHARGEFILE_REFUSED_OWNER = 7,
     CHARGEFILE_REFUSED_RECORD = 8,
     CHARGEFILE_REFUSED_OPERATION = 9,
     CHARGEFILE_REFUSED_TURN = 10,
-    CHARGEFILE_REFUSED_OUTPUT = 11
+    CHARGEFILE_REFUSED_OUTPUT = 11,
+    CHARGEFILE_REFUSED_PATTERN = 12, /* the depth of a page, or its pattern */
+    CHARGEFILE_REFUSED_ZERO = 13     /* a byte that must be zero */
 };
 
 /* The places of refusal 11: what is too small. */
@@ -255,8 +268,8 @@ typedef char chargefile_outcome_has_24_bytes[sizeof(chargefile_outcome) == 24 ? 
 typedef char chargefile_size_has_8_bytes[sizeof(size_t) == 8 ? 1 : -1];
 
 /*
- * Checks the job_length bytes at `job`, refusals 1 to 10. Nothing is written; a check has no
- * output, so the length is 0.
+ * Checks the job_length bytes at `job`, for every refusal but 11. Nothing is written; a check has
+ * no output, so the length is 0.
  */
 chargefile_outcome chargefile_check(const uint8_t *job, size_t job_length);
 
