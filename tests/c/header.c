@@ -117,10 +117,26 @@ static void refusal_numbers(void)
         CHARGEFILE_REFUSED_LIMIT,     CHARGEFILE_REFUSED_OFFSET, CHARGEFILE_REFUSED_ENTRY,
         CHARGEFILE_REFUSED_PAGE,      CHARGEFILE_REFUSED_OWNER,  CHARGEFILE_REFUSED_RECORD,
         CHARGEFILE_REFUSED_OPERATION, CHARGEFILE_REFUSED_TURN,   CHARGEFILE_REFUSED_OUTPUT,
+        CHARGEFILE_REFUSED_PATTERN,   CHARGEFILE_REFUSED_ZERO,
     };
     for (unsigned i = 0; i < sizeof numbers / sizeof numbers[0]; i++) {
         EXPECT_EQUAL(numbers[i], i);
     }
+}
+
+/* "Page, 4 + 8c bytes: l (1), record count (1), pattern (2), then records" */
+static void page_fields(void)
+{
+    static job j;
+    static const record held = {2, 50};
+    counts c = {8, 1, 1, 1, 0, 0};
+    make_job(&j, c);
+    put_page(&j, 1, 7, 300, &held, 1);
+    const uint8_t *page = j.bytes + layout_of(c).table;
+    EXPECT_EQUAL(page[CHARGEFILE_PAGE_AT_DEPTH], 7);
+    EXPECT_EQUAL(page[CHARGEFILE_PAGE_AT_COUNT], 1);
+    EXPECT_EQUAL(chargefile_two(page + CHARGEFILE_PAGE_AT_PATTERN), 300);
+    EXPECT_EQUAL(chargefile_four(page + CHARGEFILE_PAGE_HEAD_SIZE), 2);
 }
 
 static void numbers_are_little_endian(void)
@@ -157,6 +173,7 @@ void header_tests(void)
     test("header: the result buffer of a job", result_size_of_a_job);
     test("header: codes and kinds", codes_and_kinds);
     test("header: refusal numbers", refusal_numbers);
+    test("header: where the fields of a page stand", page_fields);
     test("header: numbers of 2 and 4 bytes", numbers_are_little_endian);
     test("header: the library called from C++", called_from_cpp);
 }

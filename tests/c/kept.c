@@ -34,7 +34,7 @@ static const refused REFUSED[] = {
     {"kept: refusal 3", 2, 9, 0, 0, 0, 0, CHARGEFILE_REFUSED_LIMIT, 2},
     {"kept: refusal 4", 20, 77, 0, 0, 0, 0, CHARGEFILE_REFUSED_OFFSET, 20},
     {"kept: refusal 5", 34, 2, 0, 0, 0, 0, CHARGEFILE_REFUSED_ENTRY, 34},
-    {"kept: refusal 6", 57, 1, 0, 0, 0, 0, CHARGEFILE_REFUSED_PAGE, 56},
+    {"kept: refusal 6", 37, 3, 0, 0, 0, 0, CHARGEFILE_REFUSED_PAGE, 36},
     {"kept: refusal 7", 36, 1, 0, 0, 0, 0, CHARGEFILE_REFUSED_OWNER, 34},
     {"kept: refusal 8", 48, 2, 0, 0, 0, 0, CHARGEFILE_REFUSED_RECORD, 48},
     {"kept: refusal 9", 92, 5, 0, 0, 0, 0, CHARGEFILE_REFUSED_OPERATION, 86},
@@ -42,6 +42,8 @@ static const refused REFUSED[] = {
     {"kept: refusal 11, result", 0, 1, 0, 1, 0, 0, CHARGEFILE_REFUSED_OUTPUT, 0},
     {"kept: refusal 11, rows", 0, 1, 0, 0, 1, 0, CHARGEFILE_REFUSED_OUTPUT, 1},
     {"kept: refusal 11, memory", 0, 1, 0, 0, 0, 1, CHARGEFILE_REFUSED_OUTPUT, 2},
+    {"kept: refusal 12", 38, 1, 0, 0, 0, 0, CHARGEFILE_REFUSED_PATTERN, 38},
+    {"kept: refusal 13", 57, 1, 0, 0, 0, 0, CHARGEFILE_REFUSED_ZERO, 57},
 };
 
 static job j, job_before;

@@ -7,6 +7,7 @@ int main(void)
     header_tests();
     limit_tests();
     refusal_tests();
+    page_fault_tests();
     output_tests();
     kept_tests();
     result_tests();

@@ -1,5 +1,5 @@
 /*
- * Rows 1 to 10 of the refusal table, each on job E with one byte changed.
+ * Every row of the refusal table but 11, each on job E with one byte changed.
  *
  * Job E has depth 1 and capacity 2, so its directory stands at 32 (2 entries of 2 bytes), its two
  * pages of 20 bytes at 36 and 56, its four operations of 10 bytes at 76, its turns at 116.
@@ -26,11 +26,15 @@ static const damage DAMAGES[] = {
     {"refused: total one off", 28, 157, CHARGEFILE_REFUSED_OFFSET, 28},
     {"refused: entry 0 names page 0", DIRECTORY, 0, CHARGEFILE_REFUSED_ENTRY, DIRECTORY},
     {"refused: entry 1 names page 2", DIRECTORY + 2, 2, CHARGEFILE_REFUSED_ENTRY, DIRECTORY + 2},
-    {"refused: local depth above g", PAGE_1, 2, CHARGEFILE_REFUSED_PAGE, PAGE_1},
+    {"refused: local depth above g", PAGE_1, 2, CHARGEFILE_REFUSED_PATTERN, PAGE_1},
+    {"refused: local depth 255", PAGE_1, 255, CHARGEFILE_REFUSED_PATTERN, PAGE_1},
+    {"refused: pattern of no bits is 1", PAGE_1 + 2, 1, CHARGEFILE_REFUSED_PATTERN, PAGE_1 + 2},
+    {"refused: pattern of no bits is 256", PAGE_1 + 3, 1, CHARGEFILE_REFUSED_PATTERN, PAGE_1 + 2},
     {"refused: count above c", PAGE_1 + 1, 3, CHARGEFILE_REFUSED_PAGE, PAGE_1},
-    {"refused: pattern of no bits is 1", PAGE_1 + 2, 1, CHARGEFILE_REFUSED_PAGE, PAGE_1},
-    {"refused: an unused record not zero", PAGE_1 + 1, 1, CHARGEFILE_REFUSED_PAGE, PAGE_1},
-    {"refused: an unused page not zero", PAGE_2 + 19, 1, CHARGEFILE_REFUSED_PAGE, PAGE_2},
+    {"refused: count 255", PAGE_1 + 1, 255, CHARGEFILE_REFUSED_PAGE, PAGE_1},
+    {"refused: the second record not counted", PAGE_1 + 1, 1, CHARGEFILE_REFUSED_ZERO, PAGE_1 + 12},
+    {"refused: no record counted", PAGE_1 + 1, 0, CHARGEFILE_REFUSED_ZERO, PAGE_1 + 4},
+    {"refused: an unused page not zero", PAGE_2 + 19, 1, CHARGEFILE_REFUSED_ZERO, PAGE_2 + 19},
     {"refused: entry 1 in a page of pattern 0", PAGE_1, 1, CHARGEFILE_REFUSED_OWNER, DIRECTORY + 2},
     {"refused: a call twice in a page", PAGE_1 + 12, 2, CHARGEFILE_REFUSED_RECORD, PAGE_1 + 12},
     {"refused: kind 0", OPERATIONS, 0, CHARGEFILE_REFUSED_OPERATION, OPERATIONS},
@@ -79,7 +83,8 @@ static void wrong_page(void)
     expect_refused(&j, CHARGEFILE_REFUSED_RECORD, PAGE_1 + 4 + 8);
 }
 
-/* "Checked by rising number": the last turn and entry 1 are wrong, and the entry is told. */
+/* "Checked by rising number", 12 and 13 aside (page_faults.c): the last turn and entry 1 are wrong,
+ * and the entry is told. */
 static void lowest_number_first(void)
 {
     make_job_e(&j, 20);
