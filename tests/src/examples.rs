@@ -11,11 +11,26 @@ use crate::page::{Page, Record};
 pub struct Example {
     pub name: &'static str,
     pub job: Job,
+    /// A place and the byte that is written there, for a fault that no [`Job`]
+    /// can have: it counts a page's records, and writes zeros behind the last.
+    pub edit: Option<(usize, u8)>,
+}
+
+impl Example {
+    /// The bytes of examples/NAME.job.
+    pub fn bytes(&self) -> Vec<u8> {
+        let mut bytes = self.job.to_bytes();
+        if let Some((place, byte)) = self.edit {
+            bytes[place] = byte;
+        }
+        bytes
+    }
 }
 
 /// All of them, the small ones first.
 pub fn examples() -> Vec<Example> {
-    let example = |name, job| Example { name, job };
+    let edited = |name, job, edit| Example { name, job, edit };
+    let example = |name, job| edited(name, job, None);
     vec![
         example("blank", blank()),
         example("job-e", job_e()),
@@ -24,6 +39,9 @@ pub fn examples() -> Vec<Example> {
         example("school", school()),
         example("stale", stale()),
         example("misfiled", misfiled()),
+        example("wide", wide()),
+        // Page 1 stands at 36, and its count one behind: two records, not three.
+        edited("leftover", leftover(), Some((37, 2))),
         example("month", month()),
     ]
 }
@@ -151,6 +169,31 @@ fn misfiled() -> Job {
     Job {
         file,
         operations: vec![search(6)],
+        turns: rounds(&[0], 3),
+    }
+}
+
+/// Page 2 takes the odd calls: pattern 1, a single bit. What stands there is 2,
+/// binary 10, the number of the first entry that names it.
+fn wide() -> Job {
+    let mut file = filled(even_file(2, 2, 2, 1), &[(2, 50), (3, 70), (5, 20)]);
+    file.page_mut(2).pattern = 2;
+    Job {
+        file,
+        operations: vec![search(3)],
+        turns: rounds(&[0], 3),
+    }
+}
+
+/// Call 252 was taken out of page 1 by hand. 254 and 256 have moved up, and 256
+/// also stands where it was before; the count is put right by an edit.
+fn leftover() -> Job {
+    let calls = [(254, 90), (256, 15), (253, 30), (255, 70)];
+    let mut file = filled(even_file(1, 3, 2, 1), &calls);
+    file.page_mut(1).records.push(record(256, 15));
+    Job {
+        file,
+        operations: vec![search(256)],
         turns: rounds(&[0], 3),
     }
 }

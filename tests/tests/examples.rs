@@ -27,10 +27,14 @@ fn read(name: &str) -> Vec<u8> {
     fs::read(folder().join(name)).unwrap_or_else(|why| panic!("{name}: {why}"))
 }
 
-fn example(name: &str) -> Job {
+fn named(name: &str) -> Example {
     let named = |example: &Example| example.name == name;
     let found = examples().into_iter().find(named);
-    found.expect("an example of this name").job
+    found.expect("an example of this name")
+}
+
+fn example(name: &str) -> Job {
+    named(name).job
 }
 
 /// The job dealt its whole turn list.
@@ -56,8 +60,8 @@ fn moment_and_turns(job: &Job, run: &Run, operation: usize) -> (usize, Vec<usize
 #[test]
 fn the_files_are_what_is_written() {
     let mut wanted = BTreeSet::from(BY_HAND.map(String::from));
-    for Example { name, job } in examples() {
-        let bytes = job.to_bytes();
+    for example in examples() {
+        let (name, bytes) = (example.name, example.bytes());
         assert!(read(&format!("{name}.job")) == bytes, "{name}.job");
         assert!(read(&format!("{name}.txt")) == report(&bytes), "{name}.txt");
         wanted.extend([format!("{name}.job"), format!("{name}.txt")]);
@@ -153,6 +157,29 @@ fn misfiled_names_the_record() {
     assert_eq!(check(&job), Some((8, 76)));
     let call = u32::from_le_bytes(job[76..80].try_into().expect("four bytes"));
     assert_eq!(call, 6);
+}
+
+#[test]
+fn wide_names_the_pattern() {
+    let example = named("wide");
+    let job = example.bytes();
+    assert_eq!(check(&job), Some((12, 62)));
+    assert_eq!(job[60..64], [1, 2, 2, 0], "depth 1, pattern 2");
+    let mut mended = example.job;
+    mended.file.page_mut(2).pattern = 1;
+    assert_eq!(check(&mended.to_bytes()), None);
+}
+
+#[test]
+fn leftover_names_the_first_byte_that_is_left() {
+    let mut job = named("leftover").bytes();
+    assert_eq!(check(&job), Some((13, 57)));
+    assert_eq!(job[36..40], [1, 2, 0, 0], "two records");
+    assert_eq!(job[48..56], job[56..64], "the second record and a third");
+    job[57] = 0;
+    assert_eq!(check(&job), Some((13, 60)));
+    job[60] = 0;
+    assert_eq!(check(&job), None);
 }
 
 #[test]

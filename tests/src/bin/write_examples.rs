@@ -28,7 +28,7 @@ fn main() -> ExitCode {
 fn write_all(folder: &Path) -> io::Result<()> {
     fs::create_dir_all(folder)?;
     for example in examples() {
-        let job = example.job.to_bytes();
+        let job = example.bytes();
         let text = report(&job);
         fs::write(folder.join(format!("{}.job", example.name)), &job)?;
         fs::write(folder.join(format!("{}.txt", example.name)), &text)?;
