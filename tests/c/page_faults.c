@@ -79,6 +79,16 @@ static void first_byte_of_an_unused_page(void)
     }
 }
 
+/* Page 1 of job E with one bit more: pattern 0 no longer begins entry 1, which is refused 7. */
+static void unused_page_before_owner(void)
+{
+    make_job_e(&j, 20);
+    j.bytes[PAGE_1] = 1;
+    expect_refused(&j, CHARGEFILE_REFUSED_OWNER, DIRECTORY + 2);
+    j.bytes[PAGE_2 + PAGE_LENGTH - 1] = 1;
+    expect_refused(&j, CHARGEFILE_REFUSED_ZERO, PAGE_2 + PAGE_LENGTH - 1);
+}
+
 /* A page in use with one record of the two that it has room for. */
 static void every_byte_behind_the_last_record(void)
 {
@@ -115,6 +125,7 @@ void page_fault_tests(void)
     }
     test("refused: every byte of an unused page", every_byte_of_an_unused_page);
     test("refused: the first byte of an unused page", first_byte_of_an_unused_page);
+    test("refused: an unused page before an owner", unused_page_before_owner);
     test("refused: every byte behind the last record", every_byte_behind_the_last_record);
     test("accepted: the last byte of a full page", last_byte_of_a_full_page);
 }
