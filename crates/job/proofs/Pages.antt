@@ -1,4 +1,4 @@
--- What rows 5 and 6 tell where they do not hold: entries name pages in use, and page x is what its bytes show.
+-- What rows 5, 12, 6 and 13 tell where they do not hold: entries name pages in use, and page x is what its bytes show.
 use Prim.Native.Nat.{ℕ, suc, _-_, _^_, _<_, _≤_}
 use mathlib.Core.Path.{_≡_, _∙_}
 use mathlib.Core.List.{List, []}
@@ -18,7 +18,7 @@ use Rattle.header.specs.Sections.{entries-count, pages-count}
 use Rattle.job.specs.Owner.{Paged}
 use Rattle.job.specs.Records.{Small}
 
--- page x has the bytes s, which row 6 does not refuse
+-- page x has the bytes s, which rows 12, 6 and 13 do not refuse
 pub record PageIs (b : List ℕ) (x : ℕ) (s : List ℕ) : Type 0 where
   pub is : pageAt (fileOf b) x ≡ pageOf s
   pub fine : PageFine (headerOf b) x s

@@ -1,4 +1,4 @@
--- What row 6 leaves of a page's bytes, for row 8.
+-- What rows 12, 6 and 13 leave of a page's bytes, for row 8.
 use Prim.Native.Nat.{ℕ, _≤_}
 use mathlib.Core.List.{List}
 use lib.ListN.{length}

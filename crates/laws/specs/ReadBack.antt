@@ -81,7 +81,7 @@ module _ (b : List ℕ) (bytes : AreBytes b) (accepted : jobFault b ≡ none) wh
   w : Whole j (run j)
   w = end-whole j (proper .file)
 
-  -- THE CHARGE FILE in the result is accepted as a job, with no fault of 1 to 10, and is the file after the last turn
+  -- THE CHARGE FILE in the result is accepted as a job, with no fault about its bytes, and is the file after the last turn
   pub read-back : (f : List ℕ) → result j .file ≡ some f → IsFile f (run j .file)
   read-back f e = rw (← is-that) (file-accepted (run j .file) ok fits, file-comes-back (run j .file) ok fits)
     where

@@ -49,7 +49,7 @@ fn small_output(h: Header, result: usize, rows: usize, work: usize) -> Spot
     Spot::Nowhere
 }
 
-// "Checked by rising number except that 11 comes last": every row of the refusal table.
+// "11 comes last": every row of the refusal table.
 fn check_all(job: &[u8], result: usize, rows: usize, work: usize) -> Checked
     ensures { λ r. ⌜ (r ≡ checkedOf (firstFault (record { result = result; rows = rows; work = work }) (now (job .entry)))) × AreBytes (now (job .entry)) ⌝ }
 {

@@ -1,4 +1,5 @@
--- "Refused jobs": for each number of the table, the lowest place at which its row holds, and the first fault of a job.
+-- "Refused jobs": for each number of the table, the lowest place at which its row holds, and the first fault of a job. 12 and 13, and what 6 says,
+-- are document 02's, point 1.
 use Prim.Native.Nat.{ℕ, _+_, _*_, _^_}
 use mathlib.Core.List.{List, [], _∷_}
 use mathlib.Core.Bool.{Bool, not, _&&_, _||_}
@@ -82,7 +83,7 @@ wrongEntry b = let f = fileOf b in firstOf (entryFault (f .used)) 0 (f .director
 unfoldable pub wrongPattern : ℕ → ℕ → List ℕ → Option ℕ
 wrongPattern g a p = among (when (ltb g (byte p 0)) a ∷ when (leb (2 ^ byte p 0) (word p 2)) (a + 2) ∷ [])
 
--- 6 page: "Refusal 6 keeps the record count": above c
+-- 6 page: "count above c"; "Refusal 6 keeps the record count"
 unfoldable pub overCount : ℕ → ℕ → List ℕ → Option ℕ
 overCount c a p = when (ltb c (byte p 1)) a
 
@@ -94,7 +95,7 @@ notZero a s = firstOf (λ i x. when (not (eqb x 0)) i) a s
 unfoldable pub notCleared : ℕ → List ℕ → Option ℕ
 notCleared a p = let n = 4 + recordSize * byte p 1 in notZero (a + n) (drop n p)
 
--- "Checks: 12 .., then 6, then 13 .., within each page": the rows of a page in use that begins at place a
+-- "Checks: 12 .., then 6, then 13 ..": the rows of a page in use that begins at place a
 abbrev pub usedRows : Header → ℕ → List Refusal
 usedRows h a = row 12 (wrongPattern (h .g) a) ∷ row 6 (overCount (h .c) a) ∷ row 13 (notCleared a) ∷ []
 

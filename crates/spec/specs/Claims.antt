@@ -73,7 +73,7 @@ opAt j r p = getD (j .ops) (lineAt r p .op) noOp
 unfoldable pub fed : Job → Result → ℕ → Replay
 fed j r n = replay (j .ops) (r .answers) (take n (r .log)) (contents (j .file))
 
--- the bytes meet none of rows 1 to 10 (row 11 is about what is lent)
+-- the bytes meet no row of the refusal table that is about them (row 11 is about what is lent)
 abbrev pub Accepted : List ℕ → Type 0
 Accepted b = jobFault b ≡ none
 

@@ -1,4 +1,4 @@
--- What a reader must believe: document 01's rules, a file for each part, in the document's order.
+-- What a reader must believe: document 01's rules, as document 02 changes them; a file for each part, in document 01's order.
 -- shared tools
 pub mod Basics
 -- "The file"

@@ -35,7 +35,7 @@ pub record Fit (f : File) : Type 0 where
   pub pages : length (f .table) ≡ suc (f .limit)
   pub entries : (j : ℕ) → j < 2 ^ f .g → PageNo f (getD (f .directory) j 0)
 
--- rows 6 and 8, of a page in use
+-- rows 12, 6, 13 and 8, of a page in use
 pub record PageOk (g c : ℕ) (q : Page) : Type 0 where
   pub deep : q .depth ≤ g
   pub small : q .pattern < 2 ^ q .depth
@@ -49,5 +49,5 @@ pub record FileOk (f : File) : Type 0 where
   -- row 7: for entry e, its page's pattern begins e, and no other page's in use does
   pub names : (e : ℕ) → e < 2 ^ f .g → begins (f .g) (pageAt f (entryAt f e) .depth) (pageAt f (entryAt f e) .pattern) e ≡ true
   pub owner : (e x : ℕ) → e < 2 ^ f .g → PageNo f x → begins (f .g) (pageAt f x .depth) (pageAt f x .pattern) e ≡ true → entryAt f e ≡ x
-  -- row 6: a page that is not in use is zero
+  -- row 13: a page that is not in use is zero
   pub unused : (x : ℕ) → (PageNo f x → ⊥) → pageAt f x ≡ zeroPage

@@ -20,6 +20,7 @@ pub record Rows (b : List ℕ) : Type 0 where
   pub r3 : overLimit b ≡ none
   pub r4 : wrongOffset b ≡ none
   pub r5 : wrongEntry b ≡ none
+  -- 12, 6 and 13
   pub r6 : wrongPage b ≡ none
   pub r7 : wrongOwner b ≡ none
   pub r8 : wrongRecord b ≡ none
