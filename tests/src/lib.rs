@@ -14,6 +14,7 @@
 //! - [`page::Page`] and [`split`]: find, append, remove and split a page;
 //! - [`make`], [`damage`] and [`seeds`]: random jobs, damaged jobs, and seeds
 //!   that can be repeated;
+//! - [`vectors`]: the stored jobs, with what is wanted of them;
 //! - [`explain`]: whether a log explains its answers by the plain list.
 
 pub mod answer;
@@ -37,6 +38,7 @@ pub mod seeds;
 pub mod shared;
 pub mod split;
 pub mod turn;
+pub mod vectors;
 
 pub use check::check;
 pub use report::report;

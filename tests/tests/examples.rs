@@ -8,6 +8,7 @@ use chargefile_tests::answer::{Code, Line};
 use chargefile_tests::examples::{examples, Example};
 use chargefile_tests::job::{Counts, Job};
 use chargefile_tests::run::Run;
+use chargefile_tests::vectors;
 use chargefile_tests::{check, report};
 
 /// The files of the folder that no program writes.
@@ -90,10 +91,9 @@ fn blank_is_the_smallest_job() {
 
 #[test]
 fn job_e_is_the_marked_one() {
-    let vectors = Path::new(env!("CARGO_MANIFEST_DIR")).join("vectors");
-    let vector = |name: &str| fs::read(vectors.join(name)).expect("a vector");
-    assert_eq!(read("job-e.job"), vector("marked-b.job"));
-    assert_eq!(read("job-e.txt"), vector("marked-b.out"));
+    let marked = vectors::read("00-base/marked-b");
+    assert_eq!(read("job-e.job"), marked.job);
+    assert_eq!(read("job-e.txt"), marked.print);
 }
 
 #[test]

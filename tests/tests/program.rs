@@ -1,15 +1,18 @@
 //! `chargelog` itself: every vector on its standard input, and what it prints; input in pieces, input and output that fail, arguments. It ends with
 //! status 0 whatever happens, since a program of Rattle has no other; what went wrong it says on standard error.
 
-use std::fs::{self, File};
+use std::fs::File;
 use std::io::Write;
 use std::path::{Path, PathBuf};
 use std::process::{Command, Output, Stdio};
 use std::thread;
 use std::time::Duration;
 
-fn folder() -> PathBuf {
-    Path::new(env!("CARGO_MANIFEST_DIR")).join("vectors")
+use chargefile_tests::vectors;
+
+/// Where job E stands.
+fn job_e() -> PathBuf {
+    vectors::folder().join("00-base/marked-b.job")
 }
 
 /// `chargelog`, to be started.
@@ -51,22 +54,14 @@ fn chargelog(job: &[u8]) -> Vec<u8> {
 
 #[test]
 fn every_vector() {
-    let mut jobs = 0;
-    for file in fs::read_dir(folder()).expect("the folder of vectors") {
-        let path = file.expect("a file of vectors").path();
-        if path.extension().is_some_and(|ending| ending == "job") {
-            let wanted = fs::read(path.with_extension("out")).expect("the text");
-            let printed = chargelog(&fs::read(&path).expect("a job"));
-            assert!(printed == wanted, "{}", path.display());
-            jobs += 1;
-        }
+    for vector in vectors::all() {
+        assert!(chargelog(&vector.job) == vector.print, "{}", vector.name);
     }
-    assert!(jobs >= 150, "only {jobs} vectors");
 }
 
 #[test]
 fn a_job_that_goes_on_for_ever_is_refused() {
-    let job = fs::read(folder().join("full-00.job")).expect("the largest job");
+    let job = vectors::read("00-base/full-0").job;
     for more in [1, 2, 100, 100_000] {
         let longer = [job.clone(), vec![0; more]].concat();
         assert_eq!(chargelog(&longer), b"refused 4 28\n");
@@ -80,11 +75,11 @@ fn no_input_is_refused() {
 
 #[test]
 fn a_job_in_pieces_is_read_whole() {
-    let read = |ending: &str| fs::read(folder().join("marked-b").with_extension(ending));
-    let (job, text) = (read("job").expect("job E"), read("out").expect("its text"));
+    let vector = vectors::read("00-base/marked-b");
+    let job = vector.job;
     assert_eq!(
         chargelog_in_pieces(&[&job[..1], &job[1..40], &job[40..]]),
-        text
+        vector.print
     );
     assert_eq!(chargelog_in_pieces(&[&job, &[0]]), b"refused 4 28\n");
 }
@@ -92,7 +87,7 @@ fn a_job_in_pieces_is_read_whole() {
 #[test]
 fn input_that_cannot_be_read_is_said() {
     let output = program()
-        .stdin(File::open(folder()).expect("a folder, which cannot be read as a file"))
+        .stdin(File::open(vectors::folder()).expect("a folder, which cannot be read as a file"))
         .output()
         .expect("what it said");
     assert_eq!(output.stdout, b"");
@@ -103,7 +98,7 @@ fn input_that_cannot_be_read_is_said() {
 fn output_that_cannot_be_written_is_said() {
     let full = File::options().write(true).open("/dev/full");
     let output = program()
-        .stdin(File::open(folder().join("marked-b.job")).expect("job E"))
+        .stdin(File::open(job_e()).expect("job E"))
         .stdout(full.expect("a device that takes nothing"))
         .output()
         .expect("what it said");
@@ -112,7 +107,7 @@ fn output_that_cannot_be_written_is_said() {
 
 #[test]
 fn an_argument_is_told_how_the_program_is_used() {
-    let job = folder().join("marked-b.job");
+    let job = job_e();
     for argument in ["--help", job.to_str().expect("a path in words"), ""] {
         let output = program()
             .arg(argument)

@@ -1,45 +1,13 @@
-//! Every stored job prints what is stored beside it, to the byte. The jobs and texts came with the document and were not made here: `marked-` are
-//! its marked jobs, `good-` are run and `full-` are the largest; `fault-` have one fault each, by its name, and `refused-N-` have refusal N.
+//! Every stored job comes to what is stored beside it, to the byte, and prints its text. The jobs came with the documents and were not made here:
+//! `marked-` are the marked jobs and `full-` the largest, others have one fault or two, by their names, or a number only.
 
-use std::collections::BTreeSet;
-use std::fs;
-use std::path::PathBuf;
+use std::collections::BTreeMap;
 
-use chargefile_tests::report;
+use chargefile_tests::vectors::{all, suffixes};
+use chargefile_tests::{report, run};
 
-fn folder() -> PathBuf {
-    PathBuf::from(env!("CARGO_MANIFEST_DIR")).join("vectors")
-}
-
-/// The names of the files with an ending.
-fn names(ending: &str) -> BTreeSet<String> {
-    let mut names = BTreeSet::new();
-    for file in fs::read_dir(folder()).expect("the folder of vectors") {
-        let path = file.expect("a file of vectors").path();
-        if path.extension().is_some_and(|there| there == ending) {
-            let stem = path.file_stem().unwrap().to_str().unwrap();
-            names.insert(stem.to_string());
-        }
-    }
-    names
-}
-
-fn read(name: &str, ending: &str) -> Vec<u8> {
-    let path = folder().join(format!("{name}.{ending}"));
-    fs::read(&path).unwrap_or_else(|why| panic!("{name}.{ending}: {why}"))
-}
-
-#[test]
-fn every_vector_prints_its_text() {
-    let mut wrong = Vec::new();
-    for name in names("job") {
-        let printed = report(&read(&name, "job"));
-        let wanted = read(&name, "out");
-        if printed != wanted {
-            let texts = [&printed, &wanted].map(|text| String::from_utf8_lossy(text));
-            wrong.push(format!("{name}:\n{}wanted:\n{}", texts[0], texts[1]));
-        }
-    }
+/// No stored job is said to differ.
+fn none_differ(wrong: &[String]) {
     assert!(
         wrong.is_empty(),
         "{} differ:\n{}",
@@ -49,8 +17,51 @@ fn every_vector_prints_its_text() {
 }
 
 #[test]
+fn every_vector_is_run_or_refused() {
+    let mut wrong = Vec::new();
+    for vector in all() {
+        let (result, rows, memory) = vector.room;
+        let outcome = run(&vector.job, result, rows, memory);
+        if outcome != vector.wanted {
+            wrong.push(format!(
+                "{}: {outcome:?}, wanted: {:?}",
+                vector.name, vector.wanted
+            ));
+        }
+    }
+    none_differ(&wrong);
+}
+
+#[test]
+fn every_vector_prints_its_text() {
+    let mut wrong = Vec::new();
+    for vector in all() {
+        let printed = report(&vector.job);
+        if printed != vector.print {
+            let texts = [&printed, &vector.print].map(|text| String::from_utf8_lossy(text));
+            wrong.push(format!(
+                "{}:\n{}wanted:\n{}",
+                vector.name, texts[0], texts[1]
+            ));
+        }
+    }
+    none_differ(&wrong);
+}
+
+/// Each folder has as many as came, and no file that nothing reads.
+#[test]
 fn the_vectors_are_all_there() {
-    let jobs = names("job");
-    assert_eq!(jobs, names("out"), "a job and a text for each name");
-    assert!(jobs.len() >= 150, "only {} vectors", jobs.len());
+    let known = ["job", "room", "out", "refused", "print"];
+    let mut folders: BTreeMap<String, usize> = BTreeMap::new();
+    for (name, suffixes) in suffixes() {
+        let unknown = suffixes
+            .iter()
+            .find(|suffix| !known.contains(&suffix.as_str()));
+        assert_eq!(unknown, None, "{name}");
+        let (folder, _) = name.split_once('/').expect("a folder");
+        *folders.entry(folder.to_string()).or_default() += 1;
+    }
+    let wanted = [("00-base", 176), ("01-page-faults", 62)];
+    let wanted = wanted.map(|(folder, vectors)| (folder.to_string(), vectors));
+    assert_eq!(folders, BTreeMap::from(wanted));
 }

@@ -5,6 +5,7 @@ use std::fs;
 use std::path::Path;
 
 use chargefile_tests::job::Counts;
+use chargefile_tests::vectors;
 
 use crate::calls::Call;
 use crate::jobs;
@@ -14,12 +15,11 @@ use crate::table;
 const ROTATION: u64 = 64;
 
 pub fn print() {
-    let top = Path::new(env!("CARGO_MANIFEST_DIR")).join("..");
-    let read = |path: &str| fs::read(top.join(path)).unwrap_or_else(|why| panic!("{path}: {why}"));
     table::heading("A whole job");
-    compare("full-00", read("tests/vectors/full-00.job"));
-    compare("full-01", read("tests/vectors/full-01.job"));
-    compare("the hotel", read("examples/hotel.job"));
+    compare("full-0", vectors::read("00-base/full-0").job);
+    compare("full-1", vectors::read("00-base/full-1").job);
+    let hotel = Path::new(env!("CARGO_MANIFEST_DIR")).join("../examples/hotel.job");
+    compare("the hotel", fs::read(hotel).expect("an example"));
     compare("a contended job", jobs::contended().to_bytes());
     let all: Vec<Vec<u8>> = (0..ROTATION)
         .map(|seed| jobs::full(seed).to_bytes())

@@ -1,0 +1,125 @@
+//! The stored jobs of vectors/, each with what is lent and what is wanted of
+//! it. They came with the documents and were not made here.
+//!
+//! One case is all files of one name, and the suffix says what each is: `job`;
+//! `room`, what is lent, as text (without it, enough); `out`, the whole result,
+//! or in its place `refused`, number and place as text; `print`, what
+//! `chargelog` prints, which lends enough itself.
+
+use std::collections::{BTreeMap, BTreeSet};
+use std::ffi::OsStr;
+use std::fs;
+use std::io::ErrorKind;
+use std::path::{Path, PathBuf};
+
+use crate::check::WORKING_MEMORY;
+use crate::run::Outcome;
+
+/// How many there are: a test of no vectors would always pass.
+const STORED: usize = 238;
+
+/// Enough for every job: bytes of the result buffer, rows, and bytes of other
+/// working memory.
+pub const ENOUGH: (usize, usize, usize) = (1_048_576, 256, WORKING_MEMORY);
+
+/// One stored job.
+pub struct Vector {
+    /// Its folder and name.
+    pub name: String,
+    pub job: Vec<u8>,
+    /// What is lent: bytes of the result buffer, rows, and bytes of other
+    /// working memory.
+    pub room: (usize, usize, usize),
+    /// What a run with that much lent comes to.
+    pub wanted: Outcome,
+    /// What `chargelog` prints.
+    pub print: Vec<u8>,
+}
+
+impl Vector {
+    /// What a check of the job says; 11 is about what is lent, and not about
+    /// the job's bytes.
+    pub fn checked(&self) -> Option<(u32, u32)> {
+        match self.wanted {
+            Outcome::Refused { number, place } if number != 11 => Some((number, place)),
+            _ => None,
+        }
+    }
+}
+
+/// The folder of all vectors.
+pub fn folder() -> PathBuf {
+    Path::new(env!("CARGO_MANIFEST_DIR")).join("vectors")
+}
+
+/// All stored jobs, by name.
+pub fn all() -> Vec<Vector> {
+    let vectors: Vec<Vector> = suffixes().keys().map(|name| read(name)).collect();
+    assert!(vectors.len() >= STORED, "only {} vectors", vectors.len());
+    vectors
+}
+
+/// The suffixes that each name has.
+pub fn suffixes() -> BTreeMap<String, BTreeSet<String>> {
+    let mut names: BTreeMap<String, BTreeSet<String>> = BTreeMap::new();
+    for inner in in_folder(&folder()) {
+        for file in in_folder(&inner) {
+            let case = file.with_extension("");
+            let case = case.strip_prefix(folder()).expect("a file of the folder");
+            let suffixes = names.entry(in_words(case.as_os_str())).or_default();
+            suffixes.insert(in_words(file.extension().expect("a suffix")));
+        }
+    }
+    names
+}
+
+fn in_folder(folder: &Path) -> impl Iterator<Item = PathBuf> {
+    let files = fs::read_dir(folder).unwrap_or_else(|why| panic!("{}: {why}", folder.display()));
+    files.map(|file| file.expect("a file of vectors").path())
+}
+
+fn in_words(name: &OsStr) -> String {
+    name.to_str().expect("a plain name").to_string()
+}
+
+/// The stored job of one name, its folder before it.
+pub fn read(name: &str) -> Vector {
+    Vector {
+        name: name.to_string(),
+        job: bytes(name, "job").unwrap_or_else(|| panic!("no {name}.job")),
+        room: numbers(name, "room").map_or(ENOUGH, |lent| match lent[..] {
+            [result, rows, memory] => (result, rows, memory),
+            _ => panic!("{name}.room: {lent:?}"),
+        }),
+        wanted: wanted(name),
+        print: bytes(name, "print").unwrap_or_else(|| panic!("no {name}.print")),
+    }
+}
+
+/// A result, or a refusal, but not both.
+fn wanted(name: &str) -> Outcome {
+    match (bytes(name, "out"), numbers(name, "refused").as_deref()) {
+        (Some(result), None) => Outcome::Done { result },
+        (None, Some([number, place])) => Outcome::Refused {
+            number: *number as u32,
+            place: *place as u32,
+        },
+        (out, refused) => panic!("{name}: out {}, refused {refused:?}", out.is_some()),
+    }
+}
+
+/// The bytes of a file, if the case has one with this suffix.
+fn bytes(name: &str, suffix: &str) -> Option<Vec<u8>> {
+    match fs::read(folder().join(format!("{name}.{suffix}"))) {
+        Ok(bytes) => Some(bytes),
+        Err(why) if why.kind() == ErrorKind::NotFound => None,
+        Err(why) => panic!("{name}.{suffix}: {why}"),
+    }
+}
+
+/// The numbers of a text, with blanks between them.
+fn numbers(name: &str, suffix: &str) -> Option<Vec<usize>> {
+    let text = String::from_utf8(bytes(name, suffix)?).expect("text");
+    let number = |word: &str| word.parse().unwrap_or_else(|_| panic!("{name}: {text}"));
+    Some(text.split_whitespace().map(number).collect())
+}
