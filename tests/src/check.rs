@@ -1,8 +1,7 @@
 //! The refusal table ("Refused jobs"), one function for each row.
 //!
 //! A row's function gives the lowest place at which its row is met. It may
-//! take for granted that no row with a lower number is met, because the rows
-//! are "checked by rising number".
+//! take for granted that no row is met that is checked before it.
 
 use std::collections::HashSet;
 
@@ -18,26 +17,82 @@ use crate::result::{ANSWER_LENGTH, LINE_LENGTH, RESULT_HEADER_LENGTH};
 /// "Other lent working memory under 24,576 bytes".
 pub const WORKING_MEMORY: usize = 24_576;
 
+/// A row that is looked for in the whole job: the place where it is met.
 type Row = fn(&[u8]) -> Option<usize>;
 
-/// Rows 1 to 10 in the order in which they are checked.
-const ROWS: [(u32, Row); 10] = [
-    (1, short),
-    (2, version),
-    (3, limit),
-    (4, offset),
-    (5, entry),
-    (6, page),
-    (7, owner),
-    (8, record),
-    (9, operation),
-    (10, turn),
+/// A row that is looked for in one page, given the page's bytes: the place,
+/// counted from the page's first byte.
+type PageRow = fn(&Counts, &[u8]) -> Option<usize>;
+
+/// One step of the check.
+enum Step {
+    Job(u32, Row),
+    /// All these rows are looked for in a page "before the next page is looked
+    /// at".
+    EachPage {
+        in_use: &'static [(u32, PageRow)],
+        unused: &'static [(u32, PageRow)],
+    },
+}
+
+/// The rows about the job's bytes, in the order in which they are checked: "by
+/// rising number", with the rows of a page in the place of 6: "12 (depth or
+/// pattern, at that field), then 6, then 13 (at the first byte that should be
+/// zero and is not)", and "on an unused page 13 alone".
+const ORDER: [Step; 10] = [
+    Step::Job(1, short),
+    Step::Job(2, version),
+    Step::Job(3, limit),
+    Step::Job(4, offset),
+    Step::Job(5, entry),
+    Step::EachPage {
+        in_use: &[(12, depth_or_pattern), (6, count), (13, unused_record)],
+        unused: &[(13, unused_page)],
+    },
+    Step::Job(7, owner),
+    Step::Job(8, record),
+    Step::Job(9, operation),
+    Step::Job(10, turn),
 ];
 
-/// The refusal of a job by rows 1 to 10: its number and place.
+impl Step {
+    /// The number and place of the row that is met, if one is.
+    fn met(&self, job: &[u8]) -> Option<(u32, usize)> {
+        match self {
+            Step::Job(number, row) => row(job).map(|place| (*number, place)),
+            Step::EachPage { in_use, unused } => {
+                let counts = Counts::read(job);
+                (1..=counts.pages).find_map(|page| {
+                    let rows = if page <= counts.in_use {
+                        in_use
+                    } else {
+                        unused
+                    };
+                    met_in_page(job, &counts, page, rows)
+                })
+            }
+        }
+    }
+}
+
+/// The first of these rows that a page meets, by its number from 1.
+fn met_in_page(
+    job: &[u8],
+    counts: &Counts,
+    page: usize,
+    rows: &[(u32, PageRow)],
+) -> Option<(u32, usize)> {
+    let first = page_place(counts, page);
+    let bytes = &job[first..][..page_length(counts.capacity)];
+    let met = |(number, row): &(u32, PageRow)| row(counts, bytes).map(|at| (*number, first + at));
+    rows.iter().find_map(met)
+}
+
+/// The refusal of a job by its bytes, that is by every row but 11: its number
+/// and place.
 pub fn check(job: &[u8]) -> Option<(u32, u32)> {
-    let met = |(number, row): &(u32, Row)| row(job).map(|place| (*number, place as u32));
-    ROWS.iter().find_map(met)
+    let met = ORDER.iter().find_map(|step| step.met(job));
+    met.map(|(number, place)| (number, place as u32))
 }
 
 /// The refusal by all rows; "11 comes last", after the job itself.
@@ -118,24 +173,34 @@ fn entry(job: &[u8]) -> Option<usize> {
         .find(|place| !(1..=counts.in_use).contains(&two_at(job, *place)))
 }
 
-/// Row 6: "l above g, pattern 2^l or more, count above c, or an unused record
-/// or unused page not zero".
-fn page(job: &[u8]) -> Option<usize> {
-    let counts = Counts::read(job);
-    let length = page_length(counts.capacity);
-    let wrong = |number: &usize| {
-        let bytes = &job[page_place(&counts, *number)..][..length];
-        if *number > counts.in_use {
-            return bytes.iter().any(|byte| *byte != 0);
-        }
-        let (depth, count) = (usize::from(bytes[0]), usize::from(bytes[1]));
-        depth > counts.depth
-            || two_at(bytes, 2) >= 1 << depth
-            || count > counts.capacity
-            || bytes[4 + 8 * count..].iter().any(|byte| *byte != 0)
-    };
-    let number = (1..=counts.pages).find(wrong)?;
-    Some(page_place(&counts, number))
+/// Row 12: "a depth above g or a pattern too large", "at that field". A pattern
+/// is too large if it is "2^l or more".
+fn depth_or_pattern(counts: &Counts, page: &[u8]) -> Option<usize> {
+    let depth = usize::from(page[0]);
+    if depth > counts.depth {
+        Some(0)
+    } else if two_at(page, 2) >= 1 << depth {
+        Some(2)
+    } else {
+        None
+    }
+}
+
+/// Row 6: "count above c"; the place is the first byte of the page.
+fn count(counts: &Counts, page: &[u8]) -> Option<usize> {
+    (usize::from(page[1]) > counts.capacity).then_some(0)
+}
+
+/// Row 13 in a page in use: the first byte "that should be zero and is not".
+/// The records not used are those behind its last one.
+fn unused_record(_: &Counts, page: &[u8]) -> Option<usize> {
+    let end = 4 + 8 * usize::from(page[1]);
+    (end..page.len()).find(|at| page[*at] != 0)
+}
+
+/// Row 13 on an unused page: every byte of it should be zero.
+fn unused_page(_: &Counts, page: &[u8]) -> Option<usize> {
+    page.iter().position(|byte| *byte != 0)
 }
 
 /// Row 7: "for entry j, its page's pattern does not begin j, or another
@@ -196,7 +261,7 @@ fn turn(job: &[u8]) -> Option<usize> {
         .find(|place| two_at(job, *place) >= counts.operations)
 }
 
-/// Row 11: result buffer (place 0), lent table (1), other lent memory (2).
+/// Row 11, which "comes last": result buffer (place 0), lent table (1), other lent memory (2).
 fn output(job: &[u8], result_len: usize, rows_len: usize, memory_len: usize) -> Option<u32> {
     let counts = Counts::read(job);
     if result_len < result_room(&counts) {

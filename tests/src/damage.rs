@@ -1,22 +1,29 @@
-//! Damaged jobs, for every row of the refusal table but the last.
+//! Damaged jobs, for every row of the refusal table but 11.
 //!
 //! A [`Fault`] is made in a sound job at a place that is known beforehand, so
-//! a test can ask for exactly that number and place. [`scribble`] damages at
-//! random; what comes of it has to be found out some other way.
+//! a test can ask for exactly that number and place; those of a page are in
+//! [`crate::damage_pages`]. [`scribble`] damages at random; what comes of it
+//! has to be found out some other way.
 
 use crate::check::{entry_place, page_place};
+use crate::damage_pages;
 use crate::job::{
     Counts, Job, Kind, Layout, HEADER_LENGTH, MAX_CAPACITY, MAX_DEPTH, MAX_OPERATIONS, MAX_PAGES,
     MAX_TURNS, OPERATION_LENGTH, TURN_LENGTH,
 };
-use crate::page::{page_length, Page};
+use crate::page::Page;
 use crate::random::Random;
+
+/// The numbers that a fault can be asked for: all rows about the job's bytes.
+pub const NUMBERS: [u32; 12] = [1, 2, 3, 4, 5, 6, 7, 8, 9, 10, 12, 13];
 
 /// A fault with the refusal that a sound job gets by it.
 #[derive(Clone, Debug, PartialEq, Eq)]
 pub struct Fault {
     pub number: u32,
     pub place: u32,
+    /// The page that a fault of row 12, 6 or 13 is in, by its number from 1.
+    page: Option<usize>,
     edits: Vec<(usize, u8)>,
     length: Option<usize>,
 }
@@ -26,9 +33,45 @@ impl Fault {
         Fault {
             number,
             place: place as u32,
+            page: None,
             edits,
             length: None,
         }
+    }
+
+    /// A fault that is looked for page by page.
+    pub(crate) fn of_page(
+        page: usize,
+        number: u32,
+        place: usize,
+        edits: Vec<(usize, u8)>,
+    ) -> Fault {
+        Fault {
+            page: Some(page),
+            ..Fault::new(number, place, edits)
+        }
+    }
+
+    /// Of two faults that stand beside each other the one that is told.
+    pub fn first_of<'a>(one: &'a Fault, other: &'a Fault) -> &'a Fault {
+        if one.when() < other.when() {
+            one
+        } else {
+            other
+        }
+    }
+
+    /// When the check comes to this fault. The rows go by rising number, those
+    /// of the pages in the place of 6, and a page is done with before the next:
+    /// 12, then 6, then 13. Then it is the lowest place.
+    fn when(&self) -> (u32, usize, u32, u32) {
+        let (row, page, step) = match (self.page, self.number) {
+            (Some(page), 12) => (6, page, 1),
+            (Some(page), 6) => (6, page, 2),
+            (Some(page), 13) => (6, page, 3),
+            (_, number) => (number, 0, 0),
+        };
+        (row, page, step, self.place)
     }
 
     /// The job with this fault.
@@ -43,8 +86,14 @@ impl Fault {
         damaged
     }
 
+    /// Whether both faults can be in one job. Two of row 7 can undo each other
+    /// or move the lowest place (two pages that exchange their patterns).
+    pub fn stands_beside(&self, other: &Fault) -> bool {
+        !self.overlaps(other) && (self.number, other.number) != (7, 7)
+    }
+
     /// Whether both faults write the same byte, so that only one would stay.
-    pub fn overlaps(&self, other: &Fault) -> bool {
+    fn overlaps(&self, other: &Fault) -> bool {
         let written = |place: usize| other.edits.iter().any(|(there, _)| *there == place);
         self.edits.iter().any(|(place, _)| written(*place))
             || (self.length.is_some() && other.length.is_some())
@@ -58,7 +107,7 @@ struct Target {
     layout: Layout,
 }
 
-/// A fault of a row from 1 to 10, if this sound job can have one: a job with
+/// A fault with one of [`NUMBERS`], if this sound job can have one: a job with
 /// no turns has no turn to spoil.
 pub fn fault(random: &mut Random, job: &Job, number: u32) -> Option<Fault> {
     let counts = job.counts();
@@ -73,11 +122,13 @@ pub fn fault(random: &mut Random, job: &Job, number: u32) -> Option<Fault> {
         3 => Some(limit(random, &target)),
         4 => Some(offset(random, &target)),
         5 => Some(entry(random, &target)),
-        6 => page(random, &target),
+        6 => Some(damage_pages::some_count(random, job)),
         7 => owner(random, &target),
         8 => record(random, &target),
         9 => operation(random, &target),
         10 => turn(random, &target),
+        12 => damage_pages::some_depth_or_pattern(random, job),
+        13 => damage_pages::some_byte(random, job),
         _ => panic!("no row {number} of the job"),
     }
 }
@@ -115,7 +166,7 @@ fn some_place(random: &mut Random, job: &[u8]) -> usize {
 }
 
 /// The edits that write a number of so many bytes.
-fn write(place: usize, number: usize, bytes: usize) -> Vec<(usize, u8)> {
+pub(crate) fn write(place: usize, number: usize, bytes: usize) -> Vec<(usize, u8)> {
     let byte = |step: usize| (place + step, (number >> (8 * step)) as u8);
     (0..bytes).map(byte).collect()
 }
@@ -192,35 +243,6 @@ fn entry(random: &mut Random, target: &Target) -> Fault {
     let far = random.between(above, 65_535);
     let wrong = random.one_of(&[0, above, far]);
     Fault::new(5, place, write(place, wrong, 2))
-}
-
-fn page(random: &mut Random, target: &Target) -> Option<Fault> {
-    let number = random.between(1, target.counts.pages);
-    let place = page_place(&target.counts, number);
-    let length = page_length(target.counts.capacity);
-    if number > target.counts.in_use {
-        let edit = (place + random.below(length), random.nonzero_byte());
-        return Some(Fault::new(6, place, vec![edit]));
-    }
-    let page = target.job.file.page(number);
-    let (count, capacity) = (page.records.len(), target.counts.capacity);
-    let edits = match random.below(5) {
-        0 => write(place, random.between(target.counts.depth + 1, 255), 1),
-        1 => write(place + 2, random.between(1 << page.depth, 65_535), 2),
-        2 => write(place + 1, random.between(capacity + 1, 255), 1),
-        3 if count < capacity => {
-            let unused = random.between(4 + 8 * count, length - 1);
-            vec![(place + unused, random.nonzero_byte())]
-        }
-        // One fewer counted: its bytes are now an unused record's. It needs a
-        // charge, because a fault of row 8 beside this one may make its call
-        // zero, and a record of zeros would pass as unused.
-        4 if page.records.last().is_some_and(|last| last.charge != 0) => {
-            write(place + 1, count - 1, 1)
-        }
-        _ => return None,
-    };
-    Some(Fault::new(6, place, edits))
 }
 
 /// Faults of row 7 by an entry, or by a page with another depth or pattern.

@@ -8,18 +8,20 @@
 //!
 //! The calls a test needs:
 //!
-//! - [`check`]: the refusal of a job, rows 1 to 10, or `None`;
-//! - [`run`]: the result bytes, or the refusal, rows 1 to 11;
+//! - [`check`]: the refusal of a job by its bytes, every row but 11, or `None`;
+//! - [`run`]: the result bytes, or the refusal, by every row;
 //! - [`report`]: what `chargelog` prints;
 //! - [`page::Page`] and [`split`]: find, append, remove and split a page;
-//! - [`make`], [`damage`] and [`seeds`]: random jobs, damaged jobs, and seeds
-//!   that can be repeated;
+//! - [`make`], [`damage`], [`damage_pages`] and [`seeds`]: random jobs, damaged
+//!   jobs, and seeds that can be repeated;
 //! - [`vectors`]: the stored jobs, with what is wanted of them;
+//! - [`tally`]: how often each number of refusal was met;
 //! - [`explain`]: whether a log explains its answers by the plain list.
 
 pub mod answer;
 pub mod check;
 pub mod damage;
+pub mod damage_pages;
 pub mod examples;
 pub mod explain;
 pub mod file;
@@ -37,6 +39,7 @@ pub mod run;
 pub mod seeds;
 pub mod shared;
 pub mod split;
+pub mod tally;
 pub mod turn;
 pub mod vectors;
 

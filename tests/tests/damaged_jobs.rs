@@ -4,30 +4,21 @@
 mod brute;
 
 use chargefile_tests::check::{result_room, WORKING_MEMORY};
-use chargefile_tests::damage::{fault, scribble, Fault};
+use chargefile_tests::damage::{fault, scribble, Fault, NUMBERS};
 use chargefile_tests::explain::explain;
 use chargefile_tests::job::Job;
 use chargefile_tests::make;
 use chargefile_tests::random::Random;
 use chargefile_tests::result;
 use chargefile_tests::seeds::{each_seed, few_seeds};
+use chargefile_tests::tally::Tally;
+use chargefile_tests::vectors;
 use chargefile_tests::{check, report, run, Outcome};
 
 use brute::{all_faults, first_fault, Refusal};
 
 const JOBS: u64 = 8_000;
 const PLENTY: usize = 1 << 20;
-
-/// How often each number of refusal was met.
-type Counts = [usize; 12];
-
-/// Every number from `first` to `last` was met at least so often.
-fn all_met(counts: &Counts, first: usize, last: usize, least: usize) {
-    println!("refusals by number: {:?}", &counts[first..=last]);
-    for (number, count) in counts.iter().enumerate().take(last + 1).skip(first) {
-        assert!(*count >= least, "refusal {number}: only {count}");
-    }
-}
 
 /// The damaged job is refused just so, whatever is lent: "11 comes last".
 fn refused(damaged: &[u8], (number, place): Refusal) {
@@ -57,63 +48,68 @@ fn accepted(job: &[u8]) {
 
 #[test]
 fn one_fault_at_a_known_place() {
-    let mut counts: Counts = [0; 12];
+    let mut tally = Tally::default();
     let whole = each_seed(JOBS, |seed| {
         let random = &mut Random::new(seed, "one fault");
         let job = make::small_job(random);
         let bytes = job.to_bytes();
         accepted(&bytes);
-        for number in 1..=10 {
+        for number in NUMBERS {
             if let Some(fault) = fault(random, &job, number) {
                 assert_eq!(fault.number, number);
                 refused(&fault.apply(&bytes), (fault.number, fault.place));
-                counts[number as usize] += 1;
+                tally.count(number);
             }
         }
     });
     if whole {
-        all_met(&counts, 1, 10, 2_000);
+        tally.all_met(NUMBERS, 2_000);
     }
 }
 
-/// Two faults of row 7 can undo each other or move the lowest place (two pages
-/// that exchange their patterns); all other pairs stand side by side.
-fn stand_side_by_side(one: &Fault, other: &Fault) -> bool {
-    !one.overlaps(other) && (one.number, other.number) != (7, 7)
-}
-
 #[test]
-fn of_two_faults_the_lower_number_then_the_lower_place() {
-    let mut counts: Counts = [0; 12];
-    let mut same_row = 0;
+fn of_two_faults_the_one_checked_first() {
+    let mut tally = Tally::default();
+    let (mut same_row, mut in_pages) = (0, 0);
     let whole = each_seed(JOBS, |seed| {
         let random = &mut Random::new(seed, "two faults");
         let job = make::small_job(random);
-        for first in 1..=10 {
-            let second = first + random.below(11 - first as usize) as u32;
+        for first in NUMBERS {
+            let second = match random.below(3) {
+                0 => first,
+                _ => random.one_of(&NUMBERS),
+            };
             let one = fault(random, &job, first);
             let other = fault(random, &job, second);
             let (Some(one), Some(other)) = (one, other) else {
                 continue;
             };
-            if stand_side_by_side(&one, &other) {
+            if one.stands_beside(&other) {
                 let damaged = one.apply(&other.apply(&job.to_bytes()));
-                let wanted = (one.number, one.place).min((other.number, other.place));
-                refused(&damaged, wanted);
-                counts[first as usize] += 1;
-                same_row += usize::from(one.number == other.number);
+                let told = Fault::first_of(&one, &other);
+                refused(&damaged, (told.number, told.place));
+                tally.count(told.number);
+                same_row += usize::from(first == second);
+                in_pages += usize::from(of_a_page(first) && of_a_page(second));
             }
         }
     });
     if whole {
-        all_met(&counts, 1, 10, 1_000);
+        println!("two faults of one row: {same_row}, two of pages: {in_pages}");
+        tally.all_met(NUMBERS, 300);
         assert!(same_row >= 3_000, "two faults of one row: {same_row}");
+        assert!(in_pages >= 3_000, "two faults of pages: {in_pages}");
     }
+}
+
+/// Whether a row is looked for page by page.
+fn of_a_page(number: u32) -> bool {
+    [12, 6, 13].contains(&number)
 }
 
 #[test]
 fn scribbled_jobs_agree_with_brute_force() {
-    let mut counts: Counts = [0; 12];
+    let mut tally = Tally::default();
     let mut many_faults = 0;
     let whole = each_seed(JOBS, |seed| {
         let random = &mut Random::new(seed, "scribble");
@@ -123,21 +119,33 @@ fn scribbled_jobs_agree_with_brute_force() {
             match first_fault(&damaged) {
                 Some((number, place)) => {
                     refused(&damaged, (number, place));
-                    counts[number as usize] += 1;
+                    tally.count(number);
                     many_faults += usize::from(all_faults(&damaged).len() > 1);
                 }
                 None => {
                     accepted(&damaged);
-                    counts[0] += 1;
+                    tally.count(0);
                 }
             }
         }
     });
     if whole {
         println!("with more than one fault: {many_faults}");
-        all_met(&counts, 0, 10, 300);
+        tally.all_met(NUMBERS.into_iter().chain([0]), 200);
         assert!(many_faults >= 5_000);
     }
+}
+
+/// The stored refusals are what brute force finds as well.
+#[test]
+fn stored_refusals_agree_with_brute_force() {
+    let mut tally = Tally::default();
+    for vector in vectors::all() {
+        let wanted = vector.checked();
+        assert_eq!(first_fault(&vector.job), wanted, "{}", vector.name);
+        tally.count(wanted.map_or(0, |(number, _)| number));
+    }
+    tally.all_met(NUMBERS.into_iter().chain([0]), 5);
 }
 
 /// Every length of a job but its own, and some longer ones.

@@ -1,14 +1,47 @@
 //! The refusal table once more, by brute force: every fault of a job is
-//! collected, and the least number with the least place is the refusal.
-//! Patterns are compared as texts of 0 and 1, so that no shift or mask is
-//! shared with the other checker.
+//! collected, and the one that none goes before is the refusal. Patterns are
+//! compared as texts of 0 and 1, so that no shift or mask is shared with the
+//! other checker.
 
 /// A refusal: number and place.
 pub type Refusal = (u32, u32);
 
-/// The refusal of a job by rows 1 to 10.
+/// The refusal of a job by its bytes.
 pub fn first_fault(job: &[u8]) -> Option<Refusal> {
-    all_faults(job).into_iter().min()
+    let earlier = |one, other| {
+        if goes_before(job, other, one) {
+            other
+        } else {
+            one
+        }
+    };
+    all_faults(job).into_iter().reduce(earlier)
+}
+
+/// Whether the check meets one fault of a job before another. Numbers rise, and
+/// those of a page all rank as 6; among them a page in front goes first whatever
+/// its number. In a page 12 goes before all and 13 behind all.
+fn goes_before(job: &[u8], one: Refusal, other: Refusal) -> bool {
+    let of_a_page = |(number, _): Refusal| [6, 12, 13].contains(&number);
+    let rank = |fault: Refusal| if of_a_page(fault) { 6 } else { fault.0 };
+    if rank(one) != rank(other) {
+        return rank(one) < rank(other);
+    }
+    if of_a_page(one) {
+        let [page, other_page] = [one, other].map(|(_, place)| pages_before(job, place));
+        if page != other_page {
+            return page < other_page;
+        }
+        if one.0 != other.0 {
+            return one.0 == 12 || other.0 == 13;
+        }
+    }
+    one.1 < other.1
+}
+
+/// How many whole pages lie before a place of the page table.
+fn pages_before(job: &[u8], place: u32) -> usize {
+    (place as usize - Sections::of(job).0[1]) / page_length(job)
 }
 
 /// All faults that can be told apart. A later section has no place before the
@@ -136,18 +169,29 @@ fn page_faults(job: &[u8], sections: &Sections) -> Vec<Refusal> {
     let length = page_length(job);
     for (before, place) in sections.rows(1, length).enumerate() {
         let page = &job[place..place + length];
-        let zero = |bytes: &[u8]| bytes.iter().map(|byte| u32::from(*byte)).sum::<u32>() == 0;
-        let sound = if before >= in_use(job) {
-            zero(page)
-        } else {
-            page[0] <= job[2]
-                && number(page, 2, 2) < 2usize.pow(u32::from(page[0]))
-                && page[1] <= job[3]
-                && zero(&page[4 + 8 * usize::from(page[1])..])
-        };
-        if !sound {
-            faults.push((6, place as u32));
+        let mut should_be_zero = 0..length;
+        if before < in_use(job) {
+            faults.extend(field_faults(job, place));
+            should_be_zero.start = 4 + 8 * usize::from(page[1]);
         }
+        let not_zero = should_be_zero.filter(|at| page[*at] != 0);
+        faults.extend(not_zero.map(|at| (13, (place + at) as u32)));
+    }
+    faults
+}
+
+/// Faults of the depth, the pattern and the count of a page in use.
+fn field_faults(job: &[u8], page: usize) -> Vec<Refusal> {
+    let mut faults = Vec::new();
+    let pattern = bits(number(job, page + 2, 2), 16);
+    if job[page] > job[2] {
+        faults.push((12, page as u32));
+    }
+    if pattern.trim_start_matches('0').len() > usize::from(job[page]) {
+        faults.push((12, page as u32 + 2));
+    }
+    if job[page + 1] > job[3] {
+        faults.push((6, page as u32));
     }
     faults
 }
