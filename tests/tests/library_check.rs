@@ -2,14 +2,13 @@
 
 mod linked;
 
-use std::fs;
-use std::path::PathBuf;
-
 use chargefile_tests::check;
-use chargefile_tests::damage::{fault, scribble};
+use chargefile_tests::damage::{fault, scribble, Fault, NUMBERS};
 use chargefile_tests::make;
 use chargefile_tests::random::Random;
 use chargefile_tests::seeds::each_seed;
+use chargefile_tests::tally::Tally;
+use chargefile_tests::vectors;
 use linked::CallOutcome;
 
 const JOBS: u64 = 8_000;
@@ -29,41 +28,65 @@ fn agree(job: &[u8]) -> Option<(u32, u32)> {
     wanted
 }
 
+/// What is stored is what both say.
 #[test]
 fn every_vector() {
-    let folder = PathBuf::from(env!("CARGO_MANIFEST_DIR")).join("vectors");
-    let mut jobs = 0;
-    for file in fs::read_dir(folder).expect("the folder of vectors") {
-        let path = file.expect("a file of vectors").path();
-        if path.extension().is_some_and(|ending| ending == "job") {
-            agree(&fs::read(path).expect("a job"));
-            jobs += 1;
-        }
+    let mut tally = Tally::default();
+    for vector in vectors::all() {
+        let wanted = vector.checked();
+        assert_eq!(agree(&vector.job), wanted, "{}", vector.name);
+        tally.count(wanted.map_or(0, |(number, _)| number));
     }
-    assert!(jobs >= 150, "only {jobs} vectors");
+    tally.all_met(NUMBERS.into_iter().chain([0]), 5);
 }
 
 #[test]
 fn damaged_jobs() {
-    let mut counts = [0usize; 11];
+    let mut tally = Tally::default();
     let whole = each_seed(JOBS, |seed| {
         let random = &mut Random::new(seed, "library check");
         let job = make::small_job(random);
         let bytes = job.to_bytes();
         assert_eq!(agree(&bytes), None, "an undamaged job");
-        for number in 1..=10 {
+        for number in NUMBERS {
             if let Some(fault) = fault(random, &job, number) {
-                agree(&fault.apply(&bytes));
+                let told = agree(&fault.apply(&bytes));
+                assert_eq!(told, Some((fault.number, fault.place)));
             }
             let scribbled = scribble(random, &bytes);
-            let met = agree(&scribbled).map_or(0, |(number, _)| number);
-            counts[met as usize] += 1;
+            tally.count(agree(&scribbled).map_or(0, |(number, _)| number));
         }
     });
     if whole {
-        println!("scribbled jobs by refusal, 0 for accepted: {counts:?}");
-        assert!(counts.iter().sum::<usize>() >= 50_000);
-        assert!(counts.iter().all(|count| *count > 0), "{counts:?}");
+        assert!(tally.total() >= 50_000);
+        tally.all_met(NUMBERS.into_iter().chain([0]), 300);
+    }
+}
+
+/// Two faults at once: both say the same, and where the faults stand beside each other, the one that is checked first.
+#[test]
+fn two_faults() {
+    let mut tally = Tally::default();
+    let whole = each_seed(JOBS, |seed| {
+        let random = &mut Random::new(seed, "library check of two");
+        let job = make::small_job(random);
+        let bytes = job.to_bytes();
+        for first in NUMBERS {
+            let second = random.one_of(&NUMBERS);
+            let one = fault(random, &job, first);
+            let other = fault(random, &job, second);
+            if let (Some(one), Some(other)) = (one, other) {
+                let told = agree(&one.apply(&other.apply(&bytes)));
+                if one.stands_beside(&other) {
+                    let first = Fault::first_of(&one, &other);
+                    assert_eq!(told, Some((first.number, first.place)));
+                }
+                tally.count(told.map_or(0, |(number, _)| number));
+            }
+        }
+    });
+    if whole {
+        tally.all_met(NUMBERS, 300);
     }
 }
 

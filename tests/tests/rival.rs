@@ -1,17 +1,16 @@
 //! The tuned rival (tests/rival) against the tests' own implementation: a ratio to it says something only as long as it does the whole work.
 //! Refusals, result bytes and every lent buffer afterwards: every vector, random jobs and damaged ones.
 
-use std::fs;
-use std::path::Path;
-
 use chargefile_tests::check::{least_lent, WORKING_MEMORY};
-use chargefile_tests::damage::{fault, scribble};
+use chargefile_tests::damage::{fault, scribble, NUMBERS};
 use chargefile_tests::file::ChargeFile;
 use chargefile_tests::job::{Job, Kind, Operation};
 use chargefile_tests::make;
 use chargefile_tests::page::Record;
 use chargefile_tests::random::Random;
 use chargefile_tests::seeds::{each_seed, few_seeds};
+use chargefile_tests::tally::Tally;
+use chargefile_tests::vectors;
 use chargefile_tests::{check, run, Outcome};
 use rival::Row;
 
@@ -84,18 +83,17 @@ const ENOUGH: (usize, usize, usize) = (21_048, 256, WORKING_MEMORY);
 
 #[test]
 fn every_vector() {
-    let folder = Path::new(env!("CARGO_MANIFEST_DIR")).join("vectors");
-    let (mut jobs, mut refused) = (0, 0);
-    for file in fs::read_dir(folder).expect("the folder of vectors") {
-        let path = file.expect("a file of vectors").path();
-        if path.extension().is_some_and(|ending| ending == "job") {
-            let outcome = agree(&fs::read(path).expect("a job"), ENOUGH);
-            jobs += 1;
-            refused += usize::from(matches!(outcome, Outcome::Refused { .. }));
-        }
+    let mut refused = 0;
+    let vectors = vectors::all();
+    for vector in &vectors {
+        let outcome = agree(&vector.job, vector.room);
+        assert_eq!(outcome, vector.wanted, "{}", vector.name);
+        refused += usize::from(matches!(outcome, Outcome::Refused { .. }));
     }
-    assert!(jobs >= 150, "only {jobs} vectors");
-    assert!(refused >= 40 && refused <= jobs - 40, "{refused} refused");
+    assert!(
+        refused >= 40 && refused <= vectors.len() - 40,
+        "{refused} refused"
+    );
 }
 
 #[test]
@@ -125,26 +123,25 @@ fn random_jobs() {
 
 #[test]
 fn damaged_jobs() {
-    let (mut jobs, mut refused) = (0, [0usize; 11]);
+    let (mut jobs, mut tally) = (0, Tally::default());
     let whole = each_seed(DAMAGED, |seed| {
         let random = &mut Random::new(seed, "rival damage");
         let job = make::small_job(random);
         let bytes = job.to_bytes();
-        for number in 1..=10 {
+        for number in NUMBERS {
             let faulty = fault(random, &job, number).map(|fault| fault.apply(&bytes));
             for damaged in faulty.into_iter().chain([scribble(random, &bytes)]) {
                 let outcome = agree(&damaged, ENOUGH);
                 if let Outcome::Refused { number, .. } = outcome {
-                    refused[number as usize] += 1;
+                    tally.count(number);
                 }
                 jobs += 1;
             }
         }
     });
     if whole {
-        println!("of {jobs} jobs, refusals by number: {refused:?}");
         assert!(jobs >= 15 * DAMAGED, "only {jobs} jobs");
-        assert!(refused[1..].iter().all(|count| *count > 50), "{refused:?}");
+        tally.all_met(NUMBERS, 50);
     }
 }
 

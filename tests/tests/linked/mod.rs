@@ -2,6 +2,8 @@
 // each test program and benchmark uses its own part of these
 #![allow(dead_code)]
 
+use std::hint::black_box;
+
 use chargefile_tests::Outcome;
 
 /// A row of the lent table, as include/chargefile.h declares it; all 0 for an operation not begun.
@@ -131,5 +133,39 @@ pub fn wanted(outcome: &Outcome) -> Told {
     match outcome {
         Outcome::Done { result } => Ok(result.clone()),
         Outcome::Refused { number, place } => Err((u64::from(*number), u64::from(*place))),
+    }
+}
+
+/// Runs a job with so much lent: bytes of the result buffer, rows, bytes of working memory. It comes to this, and what is lent is left as the document
+/// says; a refusal has written nothing.
+pub fn comes_to(job: &[u8], (result, rows, memory): (usize, usize, usize), wanted: &Outcome) {
+    let before = Lent::new(result, rows, memory);
+    let mut after = before.clone();
+    let given = black_box(job.to_vec());
+    let told = run(&given, &mut after);
+    assert!(black_box(given) == job, "the job's own bytes are written");
+    assert_eq!(told, self::wanted(wanted));
+    match wanted {
+        Outcome::Refused { .. } => {
+            assert!(
+                after == before,
+                "a refused job has written to a lent buffer"
+            );
+        }
+        Outcome::Done { result } => {
+            let end = result.len();
+            assert!(
+                after.result[end..] == before.result[end..],
+                "bytes past the total"
+            );
+            assert!(
+                after.rows.iter().all(|row| *row == NO_ROW),
+                "rows after a run"
+            );
+            assert!(
+                after.memory.iter().all(|byte| *byte == 0),
+                "memory after a run"
+            );
+        }
     }
 }
