@@ -96,7 +96,7 @@ fn of_two_faults_the_one_checked_first() {
     });
     if whole {
         println!("two faults of one row: {same_row}, two of pages: {in_pages}");
-        tally.all_met(NUMBERS, 300);
+        tally.all_met(NUMBERS, 500);
         assert!(same_row >= 3_000, "two faults of one row: {same_row}");
         assert!(in_pages >= 3_000, "two faults of pages: {in_pages}");
     }
