@@ -14,8 +14,9 @@ use crate::job::{
 use crate::page::Page;
 use crate::random::Random;
 
-/// The numbers that a fault can be asked for: all rows about the job's bytes.
-pub const NUMBERS: [u32; 12] = [1, 2, 3, 4, 5, 6, 7, 8, 9, 10, 12, 13];
+/// The numbers that a fault can be asked for: all rows about the job's bytes,
+/// in the order in which they are checked (12, 6 and 13 page by page).
+pub const NUMBERS: [u32; 12] = [1, 2, 3, 4, 5, 12, 6, 13, 7, 8, 9, 10];
 
 /// A fault with the refusal that a sound job gets by it.
 #[derive(Clone, Debug, PartialEq, Eq)]

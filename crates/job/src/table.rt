@@ -44,7 +44,7 @@ fn is_zero(s: &[u8], from: usize) -> bool
     sum == 0
 }
 
-// 13 zero: "at the first byte that should be zero and is not", of the bytes from one on of a page that begins at a place. It is looked for only where
+// 13 zero: "at the first byte that should be zero and is not", from byte `from` of a page on, which begins at a place. It is looked for only where
 // their sum is not zero.
 fn not_zero(page: &[u8], from: usize, place: usize) -> Spot
     requires { ⌜ (from ≤ length (now page)) × (length (now page) ≤ 68) × (place ≤ 17952) ⌝ }
