@@ -21,7 +21,7 @@ unfoldable pub spotOf : Option ℕ → Spot
 spotOf none = Nowhere
 spotOf (some p) = At p
 
--- the check of a job's bytes: accepted, or refused with number and place
+-- the check of a job's bytes, or of a page's: accepted, or refused with number and place
 unfoldable pub checkedOf : Option Fault → Checked
 checkedOf none = Accepted
 checkedOf (some f) = Refused (f .number) (f .place)

@@ -64,7 +64,7 @@ pub enum Spot {
     Nowhere,
 }
 
-// What the check of a job's bytes comes to: no fault, or number and place of the first.
+// What the check of a job's bytes, or of a page's, comes to: no fault, or number and place of the first.
 pub enum Checked {
     Accepted,
     Refused(usize, usize),

@@ -7,17 +7,17 @@ use mathlib.Core.List.{List, [], _∷_, _++_}
 use mathlib.Core.Bool.{Bool, true, false, not, _&&_, _||_}
 use mathlib.Core.Option.{Option, none, some, Option·none-ne-some}
 use native.Mathlib.Omega.{arith}
-use lib.Dec.{ltb, leb, eqb}
+use lib.Dec.{ltb, leb}
 use lib.ListN.{length, take, drop, length-take, length-drop}
 use Rattle.spec.specs.Basics.{when, orElse, among, firstOf, Each, end, next}
 use Rattle.spec.specs.Bytes.{byte, word, parts}
 use Rattle.spec.specs.Job.{Header, recordSize, pageSize, pagePlace}
 use Rattle.spec.specs.Decode.{headerOf, pageParts}
-use Rattle.spec.specs.Check.{Fault, Refusal, row, firstRow, wrongPattern, overCount, notZero, notCleared, pageFault, wrongPage, rows, jobFault}
+use Rattle.spec.specs.Check.{Fault, Refusal, row, firstRow, wrongPattern, overCount, notCleared, pageFault, wrongPage, rows, jobFault}
 use Rattle.laws.specs.Tools.{if-case}
 use Rattle.laws.specs.Codec.Tools.{failed, numbered-none, row-none}
 use Rattle.laws.specs.Codec.Walk.{first-same, first-both}
-use Rattle.laws.specs.Codec.Zeros.{zeros}
+use Rattle.laws.specs.Codec.Zeros.{zeros, not-zero-said}
 use Rattle.laws.specs.Codec.Told.{Tells, tells-row, tells-rows}
 use Rattle.laws.specs.Codec.Pages.{PageFine, page-fine}
 
@@ -107,26 +107,17 @@ unfolding when
 when-within true a p e = cc
 when-within false a p e = absurd (Option·none-ne-some _ e)
 
-zero-within : (a : ℕ) (s : List ℕ) (p : ℕ) → notZero a s ≡ some p → Within a (length s) p
-unfolding notZero firstOf when orElse
-zero-within a [] p = λ e. absurd (Option·none-ne-some _ e)
-zero-within a (x ∷ s) p = by (not (eqb x 0)) (zero-within (suc a) s p)
-  where
-    by : (t : Bool) → (notZero (suc a) s ≡ some p → Within (suc a) (length s) p) → orElse (when t a) (notZero (suc a) s) ≡ some p → Within a (suc (length s)) p
-    by true h e = let z : a ≡ p = cc in (omega arith, omega arith)
-    by false h e = let w = h e in (omega arith, omega arith)
-
 page-within : (h : Header) (x : ℕ) (p : List ℕ) → length p ≤ pageSize (h .c) → Tells (λ f. Within (pagePlace h x) (pageSize (h .c)) (f .place)) (pageFault h x p)
 unfolding pageFault wrongPattern overCount notCleared
 page-within h x p l =
     let In : Fault → Type 0 = λ f. Within (pagePlace h x) (pageSize (h .c)) (f .place) in
     tells-rows In _ p
     (if-case (Each (λ (r : Refusal). Tells In (r p)))
-    (λ e. next (tells-row In 13 _ (λ q z. let w = zero-within _ p q z in (omega arith, omega arith))) end)
+    (λ e. next (tells-row In 13 _ (λ q z. let w = not-zero-said _ p q z in (w .from, omega (arith, w .within)))) end)
     (λ e.
     next (tells-row In 12 _ (λ q z. let w = pattern-within _ _ _ q z in (omega arith, omega arith)))
     (next (tells-row In 6 _ (λ q z. let w = when-within _ _ q z in (omega arith, omega arith)))
-    (next (tells-row In 13 _ (λ q z. let w = zero-within _ _ q z in let m = length-drop (4 + recordSize * byte p 1) p in (omega arith, omega arith))) end))))
+    (next (tells-row In 13 _ (λ q z. let w = not-zero-said _ _ q z in let m = length-drop (4 + recordSize * byte p 1) p in (omega (arith, w .from), omega (arith, w .within)))) end))))
 
 parts-short : (n size : ℕ) (b : List ℕ) → Each (λ p. length p ≤ size) (parts n size b)
 unfolding parts

@@ -1,16 +1,18 @@
 -- Bytes that should be zero: row 13 finds none that is not exactly if all are.
-use Prim.Native.Nat.{ℕ, zero, suc}
+use Prim.Native.Nat.{ℕ, zero, suc, _+_, _-_, _<_, _≤_}
 use mathlib.Core.Path.{_≡_, refl}
-use mathlib.Core.Logic.{_↔_, Iff·rfl}
+use mathlib.Core.Logic.{_↔_, Iff·rfl, by-cases}
 use mathlib.Core.List.{List, [], _∷_}
-use mathlib.Core.Bool.{Bool, true, _&&_, and-eq-true-iff}
-use mathlib.Core.Option.{none}
+use mathlib.Core.Bool.{Bool, true, false, not, _&&_, and-eq-true-iff}
+use mathlib.Core.Option.{none, some, Option·none-ne-some}
+use native.Mathlib.Omega.{arith}
+use native.Mathlib.Decide.{ℕ-discrete}
 use lib.Dec.{eqb}
-use lib.ListN.{drop, replicate}
-use Rattle.spec.specs.Basics.{firstOf}
+use lib.ListN.{length, drop, replicate}
+use Rattle.spec.specs.Basics.{when, orElse, firstOf}
 use Rattle.spec.specs.Bytes.{byte}
 use Rattle.spec.specs.Check.{notZero}
-use Rattle.laws.specs.Codec.Tools.{failed, orElse-none}
+use Rattle.laws.specs.Codec.Tools.{failed, eqb-no, eqb-yes, orElse-none}
 
 -- every byte is zero
 unfoldable pub zeros : List ℕ → Bool
@@ -22,6 +24,38 @@ pub not-zero-none : (a : ℕ) (s : List ℕ) → notZero a s ≡ none ↔ zeros 
 unfolding notZero firstOf zeros
 not-zero-none a [] = (λ e. refl, λ e. refl)
 not-zero-none a (x ∷ s) = simp (orElse-none, failed, and-eq-true-iff, not-zero-none (suc a) s) Iff·rfl
+
+-- ROW 13, WITH NO WORD OF WALKS: at place p stands the first byte of s, the first of which stands at place a, that is not zero
+pub record FirstSet (a : ℕ) (s : List ℕ) (p : ℕ) : Type 0 where
+  pub from : a ≤ p
+  pub within : p < a + length s
+  pub set : byte s (p - a) ≡ 0 → ⊥
+  pub before : (q : ℕ) → a ≤ q → q < p → byte s (q - a) ≡ 0
+
+pub not-zero-said : (a : ℕ) (s : List ℕ) (p : ℕ) → notZero a s ≡ some p → FirstSet a s p
+unfolding notZero firstOf when orElse byte
+not-zero-said a [] p = λ e. absurd (Option·none-ne-some _ e)
+not-zero-said a (x ∷ s) p = by (eqb x 0) refl (not-zero-said (suc a) s p)
+  where
+    by
+        : (t : Bool)
+        → eqb x 0 ≡ t
+        → (notZero (suc a) s ≡ some p → FirstSet (suc a) s p)
+        → orElse (when (not t) a) (notZero (suc a) s) ≡ some p
+        → FirstSet a (x ∷ s) p
+    by false z later e =
+        let h : a ≡ p = cc in
+        let k : p - a ≡ 0 = omega arith in
+        record { from = omega arith; within = omega arith; set = rw k (eqb-no x 0 .0 z); before = λ q l u. absurd (omega arith) }
+    by true z later e =
+        let w = later e in
+        let k : p - a ≡ suc (p - suc a) = omega (arith, w .from) in
+        record { from = omega (arith, w .from); within = omega (arith, w .within); set = rw k (w .set); before = clear w }
+      where
+        clear : FirstSet (suc a) s p → (q : ℕ) → a ≤ q → q < p → byte (x ∷ s) (q - a) ≡ 0
+        clear w q l u =
+            by-cases (ℕ-discrete q a) (λ (h : q ≡ a). let k : q - a ≡ 0 = omega arith in rw k (eqb-yes x 0 .0 z))
+            (λ n. let k : q - a ≡ suc (q - suc a) = omega (arith, n) in rw k (w .before q (omega (arith, n)) u))
 
 pub zeros-byte : (b : List ℕ) → zeros b ≡ true → (p : ℕ) → byte b p ≡ 0
 unfolding zeros byte
