@@ -167,8 +167,8 @@ static inline size_t chargefile_result_size(const uint8_t *job, size_t job_lengt
 /*
  * ---- Refusals. Rows are tried in the order of this table, which is not quite that of the numbers,
  * and within a row the lowest place is told. 12, 6 and 13 go page by page: all three are tried on
- * page 1, then all three on page 2, and so on. Places count bytes from the job's start, but for 1
- * and 11. docs/FORMAT.md finds the field of any place.
+ * page 1, then all three on page 2, and so on; on a page that is not in use, 13 alone. Places count
+ * bytes from the job's start, but for 1 and 11. docs/FORMAT.md finds the field of any place.
  *
  *   No.  When                                                        Place
  *    1   the job is under 32 bytes                                   its length
@@ -196,7 +196,7 @@ enum chargefile_refusal {
     CHARGEFILE_REFUSED_LIMIT = 3,
     CHARGEFILE_REFUSED_OFFSET = 4,
     CHARGEFILE_REFUSED_ENTRY = 5,
-    CHARGEFILE_REFUSED_PAGE = 6, /* its record count */
+    CHARGEFILE_REFUSED_PAGE = 6, /* a page's record count */
     CHARGEFILE_REFUSED_OWNER = 7,
     CHARGEFILE_REFUSED_RECORD = 8,
     CHARGEFILE_REFUSED_OPERATION = 9,

@@ -35,7 +35,7 @@ static const pair PAIRS[] = {
     {"order: a depth before a byte", PAGE_1 + 4, 1, PAGE_1, 2, CHARGEFILE_REFUSED_PATTERN, PAGE_1},
     {"order: a pattern before a byte", PAGE_1 + 4, 1, PAGE_1 + 2, 2, CHARGEFILE_REFUSED_PATTERN,
      PAGE_1 + 2},
-    {"order: a count before a byte", PAGE_1 + 19, 1, PAGE_1 + 1, 3, CHARGEFILE_REFUSED_PAGE,
+    {"a count above c: no byte has to be zero", PAGE_1 + 19, 1, PAGE_1 + 1, 3, CHARGEFILE_REFUSED_PAGE,
      PAGE_1},
     {"order: a count before the next page's depth", PAGE_2, 2, PAGE_1 + 1, 3,
      CHARGEFILE_REFUSED_PAGE, PAGE_1},

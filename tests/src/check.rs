@@ -1,7 +1,9 @@
-//! The refusal table ("Refused jobs"), one function for each row.
+//! The refusal table ("Refused jobs"), one function for each row, and two for
+//! 13: a page in use, and one that is not.
 //!
-//! A row's function gives the lowest place at which its row is met. It may
-//! take for granted that no row is met that is checked before it.
+//! A row's function gives the lowest place at which its row is met; that of a
+//! row of pages counts it from the page's first byte. It may take for granted
+//! that no row is met that is checked before it.
 
 use std::collections::HashSet;
 

@@ -1,6 +1,6 @@
 //! A second implementation of "The charge file and its turns", for tests only.
 //!
-//! It was written from the document alone, so that a mistake in the library
+//! It was written from the documents alone, so that a mistake in the library
 //! and a mistake here are unlikely to be the same mistake. Where the document
 //! leaves the manner open, this crate takes the plain way of the paper behind
 //! it: an insert works out its whole split once, in a private work space, and

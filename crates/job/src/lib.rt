@@ -17,7 +17,7 @@ ghost use Rattle.spec.specs.Cases.{checkedOf};
 ghost use Rattle.header.specs.Counts.{countsOf, Heads};
 ghost use Rattle.job.specs.Owner.{Paged};
 
-// The rows in the table's order, then "by lowest place". Of any bytes: no row is looked at before those that it rests on have passed.
+// The rows in the order of `Check.rows`, then "by lowest place". Of any bytes: no row is looked at before those that it rests on have passed.
 pub fn check(job: &[u8]) -> Checked
     ensures { λ r. ⌜ r ≡ checkedOf (jobFault (now (job .entry))) ⌝ }
 {

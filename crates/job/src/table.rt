@@ -45,7 +45,7 @@ fn is_zero(s: &[u8], from: usize) -> bool
 }
 
 // 13 zero: "at the first byte that should be zero and is not", from byte `from` of a page on, which begins at a place. It is looked for only where
-// their sum is not zero.
+// the sum of these bytes is not zero.
 fn not_zero(page: &[u8], from: usize, place: usize) -> Spot
     requires { ⌜ (from ≤ length (now page)) × (length (now page) ≤ 68) × (place ≤ 17952) ⌝ }
     ensures { λ r. ⌜ r ≡ spotOf (notZero (place + from) (drop from (now (page .entry)))) ⌝ }

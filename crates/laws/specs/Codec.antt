@@ -11,6 +11,7 @@ pub mod Places
 pub mod Rows
 pub mod Told
 pub mod Numbered
+pub mod Exchange
 pub mod Longest
 pub mod InUse
 pub mod Owner

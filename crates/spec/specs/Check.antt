@@ -79,7 +79,7 @@ entryFault used j x = when (outside 1 used x) (entryPlace j)
 unfoldable pub wrongEntry : List ℕ → Option ℕ
 wrongEntry b = let f = fileOf b in firstOf (entryFault (f .used)) 0 (f .directory)
 
--- 12 pattern: "A depth above g or a pattern too large", "at that field". The page's bytes are p, and it begins at place a
+-- 12 pattern: "A depth above g or a pattern too large" ("2^l or more"), "at that field". The page's bytes are p, and it begins at place a
 unfoldable pub wrongPattern : ℕ → ℕ → List ℕ → Option ℕ
 wrongPattern g a p = among (when (ltb g (byte p 0)) a ∷ when (leb (2 ^ byte p 0) (word p 2)) (a + 2) ∷ [])
 

@@ -35,7 +35,7 @@ pub record Fit (f : File) : Type 0 where
   pub pages : length (f .table) ≡ suc (f .limit)
   pub entries : (j : ℕ) → j < 2 ^ f .g → PageNo f (getD (f .directory) j 0)
 
--- rows 12, 6, 13 and 8, of a page in use
+-- rows 12, 6 and 8, of a page in use
 pub record PageOk (g c : ℕ) (q : Page) : Type 0 where
   pub deep : q .depth ≤ g
   pub small : q .pattern < 2 ^ q .depth

@@ -1,4 +1,4 @@
--- "Refused jobs", condition by condition: each row of this table changes a byte or two of a job that is run, or what is lent to it. One proof.
+-- "Refused jobs", condition by condition: each row of this table changes a few bytes of a job that is run, or what is lent to it. One proof.
 use Prim.Native.Nat.{ℕ}
 use mathlib.Core.Path.{_≡_, refl}
 use mathlib.Core.List.{List, [], _∷_, _++_, map}
@@ -21,6 +21,10 @@ base =
     2 ∷ 0 ∷ 4 ∷ 0 ∷ 0 ∷ 0 ∷ 90 ∷ 0 ∷ 0 ∷ 0 ∷  -- operation 1
     0 ∷ 0 ∷ 1 ∷ 0 ∷  -- turns
     []
+
+-- and with no record in page 1
+abbrev empty : List ℕ
+empty = set (set (set base 37 0) 40 0) 44 0
 
 record Edit : Type 0 where
   lent : Lent
@@ -80,18 +84,26 @@ edits =
     ∷ edit 32 0 5 32  -- entry 0
     ∷ edit 34 3 5 34  -- above U, and not above P
     ∷ edit 36 2 12 36  -- l above g
+    ∷ edit 36 255 12 36
     ∷ edit 38 2 12 38  -- pattern 2^l
     ∷ edit 59 1 12 58
+    ∷ edit 56 0 12 58  -- a pattern of no bits
     ∷ other (set (set base 38 4) 36 2) 12 36  -- both: the depth
     ∷ edit 57 3 6 56  -- count above c
+    ∷ edit 57 255 6 56
     ∷ edit 48 1 13 48  -- an unused record
     ∷ edit 55 1 13 55  -- its last byte
     ∷ other (set (set base 55 1) 50 1) 13 50  -- the first of two bytes
+    ∷ edit 37 0 13 40  -- no record counted
+    ∷ fine enough empty
+    ∷ other (set empty 43 1) 13 43  -- two unused records
+    ∷ other (set empty 55 1) 13 55
     ∷ edit 76 9 13 76  -- an unused page: what would be its depth
     ∷ edit 77 9 13 77  -- its count
     ∷ edit 79 1 13 79  -- its pattern
     ∷ edit 95 1 13 95  -- its last byte
     ∷ other (set (set base 78 1) 77 9) 13 77
+    ∷ other (set (set base 6 1) 34 1) 13 56  -- a page that U leaves out
     ∷ other (set (set base 57 3) 56 2) 12 56  -- within a page: 12 before 6
     ∷ other (set (set base 57 3) 58 2) 12 58
     ∷ other (set (set base 48 1) 38 2) 12 38  -- 12 before 13

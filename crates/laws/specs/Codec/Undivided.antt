@@ -1,24 +1,25 @@
 -- Document 01's table has one row for all faults of a page, told at the page; document 02 divides it into 12, 6 and 13. Between the two: no fault is
--- added or lost, the faults that other rows tell stay as they are, and what is told lies in the page that the one row tells.
+-- added or lost, the faults that other rows tell stay as they are, and where the one row tells a page, one of the three tells a place in that page.
 use Prim.Native.Nat.{ℕ, zero, suc, _+_, _*_, _^_, _<_, _≤_}
-use mathlib.Core.Path.{_≡_, refl, sym, _∙_}
-use mathlib.Core.Logic.{_↔_, Iff·rfl}
+use mathlib.Core.Path.{_≡_, refl, sym, ap, _∙_}
+use mathlib.Core.Logic.{_↔_, Iff·rfl, _⊎_, inl, inr}
 use mathlib.Core.List.{List, [], _∷_, _++_}
 use mathlib.Core.Bool.{Bool, true, false, not, _&&_, _||_}
 use mathlib.Core.Option.{Option, none, some, Option·none-ne-some}
 use native.Mathlib.Omega.{arith}
-use lib.Dec.{ltb, leb}
+use lib.Dec.{ltb, leb, eqb}
 use lib.ListN.{length, take, drop, length-take, length-drop}
 use Rattle.spec.specs.Basics.{when, orElse, among, firstOf, Each, end, next}
 use Rattle.spec.specs.Bytes.{byte, word, parts}
 use Rattle.spec.specs.Job.{Header, recordSize, pageSize, pagePlace}
 use Rattle.spec.specs.Decode.{headerOf, pageParts}
-use Rattle.spec.specs.Check.{Fault, Refusal, row, firstRow, wrongPattern, overCount, notCleared, pageFault, wrongPage, rows, jobFault}
+use Rattle.spec.specs.Check.{Fault, numbered, Refusal, row, firstRow, wrongPattern, overCount, notCleared, pageFault, wrongPage, rows, jobFault}
 use Rattle.laws.specs.Tools.{if-case}
-use Rattle.laws.specs.Codec.Tools.{failed, numbered-none, row-none}
+use Rattle.laws.specs.Codec.Tools.{failed, eqb-no, numbered-none}
 use Rattle.laws.specs.Codec.Walk.{first-same, first-both}
 use Rattle.laws.specs.Codec.Zeros.{zeros, not-zero-said}
-use Rattle.laws.specs.Codec.Told.{Tells, tells-row, tells-rows}
+use Rattle.laws.specs.Codec.Exchange.{exchange-none, exchange-other, exchange-alone}
+use Rattle.laws.specs.Codec.Told.{Tells, tells-row, tells-rows, tells-walk}
 use Rattle.laws.specs.Codec.Pages.{PageFine, page-fine}
 
 -- document 01, 6 page: "l above g, pattern 2^l or more, count above c, or an unused record or unused page not zero". Page x has the bytes p
@@ -51,30 +52,6 @@ pages-same b = simp numbered-none (first-same _ _ (page-same (headerOf b)) 1 (pa
 
 -- ---- THE OTHER ROWS STAY
 
--- one row, r, is exchanged for another, s, that tells a fault of the same bytes
-module _ (r s : Refusal) (back : List Refusal) (b : List ℕ) (same : r b ≡ none ↔ s b ≡ none) where
-  pub exchange-none : (front : List Refusal) → firstRow (front ++ r ∷ back) b ≡ none ↔ firstRow (front ++ s ∷ back) b ≡ none
-  exchange-none [] = simp (row-none, same) Iff·rfl
-  exchange-none (q ∷ front) = simp (row-none, exchange-none front) Iff·rfl
-
-  -- a fault that r does not tell
-  module _ (f : Fault) (not : r b ≡ some f → ⊥) where
-    later : (o : Option Fault) (y z : Option Fault) → (y ≡ some f → z ≡ some f) → orElse o y ≡ some f → orElse o z ≡ some f
-    unfolding orElse
-    later none y z h e = h e
-    later (some g) y z h e = e
-
-    here : (o p : Option Fault) → r b ≡ o → s b ≡ p → (y : Option Fault) → orElse o y ≡ some f → orElse p y ≡ some f
-    unfolding orElse
-    here none none d e y h = h
-    here none (some g) d e y h = absurd (Option·none-ne-some _ (sym (same .0 d) ∙ e))
-    here (some g) p d e y h = absurd (not (d ∙ h))
-
-    pub exchange-other : (front : List Refusal) → firstRow (front ++ r ∷ back) b ≡ some f → firstRow (front ++ s ∷ back) b ≡ some f
-    unfolding firstRow
-    exchange-other [] = here (r b) (s b) refl refl (firstRow back b)
-    exchange-other (q ∷ front) = later (q b) _ _ (exchange-other front)
-
 -- the table with document 01's row 6
 abbrev pub oneRow : List Refusal
 oneRow = take 5 rows ++ row 6 undivided ∷ drop 6 rows
@@ -83,12 +60,33 @@ pub accepted-same : (b : List ℕ) → firstRow oneRow b ≡ none ↔ jobFault b
 unfolding jobFault
 accepted-same b = exchange-none (row 6 undivided) wrongPage (drop 6 rows) b (pages-same b) (take 5 rows)
 
-pub others-same : (b : List ℕ) (f : Fault) → (f .number ≡ 6 → ⊥) → firstRow oneRow b ≡ some f → jobFault b ≡ some f
+-- the numbers of the rows that divide it
+abbrev pub OfPage : Fault → Type 0
+OfPage f = (f .number ≡ 12) ⊎ (f .number ≡ 6) ⊎ (f .number ≡ 13)
+
+page-number : (h : Header) (x : ℕ) (p : List ℕ) → Tells OfPage (pageFault h x p)
+unfolding pageFault
+page-number h x p =
+    tells-rows OfPage _ p
+    (if-case (Each (λ (r : Refusal). Tells OfPage (r p))) (λ e. next (tells-row OfPage 13 _ (λ q z. inr (inr refl))) end)
+    (λ e.
+    next (tells-row OfPage 12 _ (λ q z. inl refl))
+    (next (tells-row OfPage 6 _ (λ q z. inr (inl refl))) (next (tells-row OfPage 13 _ (λ q z. inr (inr refl))) end))))
+
+pages-number : (b : List ℕ) → Tells OfPage (wrongPage b)
+unfolding wrongPage
+pages-number b = tells-walk OfPage _ 1 _ (page-number (headerOf b))
+
+row-number : (n : ℕ) (x : Option ℕ) (f : Fault) → numbered n x ≡ some f → f .number ≡ n
+row-number n x f e = tells-row (λ g. g .number ≡ n) n x (λ p q. refl) f e
+
+-- a fault of another row has the number and the place that it has
+pub others-same : (b : List ℕ) (f : Fault) → (OfPage f → ⊥) → firstRow oneRow b ≡ some f ↔ jobFault b ≡ some f
 unfolding jobFault
-others-same b f n = exchange-other (row 6 undivided) wrongPage (drop 6 rows) b (pages-same b) f six (take 5 rows)
-  where
-    six : row 6 undivided b ≡ some f → ⊥
-    six e = n (tells-row (λ g. g .number ≡ 6) 6 (undivided b) (λ p q. refl) f e)
+others-same b f other = (
+  exchange-other (row 6 undivided) wrongPage (drop 6 rows) b (pages-same b) f (λ e. other (inr (inl (row-number 6 _ f e)))) (take 5 rows),
+  exchange-other wrongPage (row 6 undivided) (drop 6 rows) b (pages-same b .1, pages-same b .0) f (λ e. other (pages-number b f e)) (take 5 rows),
+)
 
 -- ---- THE PLACE LIES IN THE PAGE
 
@@ -131,3 +129,46 @@ place-within b a f =
     let h = headerOf b in
     first-both (badPlace h) (pageFault h) (page-same h) (λ p. length p ≤ pageSize (h .c)) (λ a f. Within a (pageSize (h .c)) (f .place))
     (λ x p a f l e t. rw (← when-within (badPage h x p) (pagePlace h x) a e) (page-within h x p l f t)) 1 (pageParts h b) (parts-short _ _ _) a f
+
+place-of : (x : Option ℕ) (p : ℕ) → numbered 6 x ≡ some (record { number = 6; place = p }) → x ≡ some p
+unfolding numbered
+place-of none p e = absurd (Option·none-ne-some _ e)
+place-of (some q) p e =
+    let h : _≡_ {A = Fault} (record { number = 6; place = q }) (record { number = 6; place = p }) = cc in
+    ap (λ (f : Fault). some (f .place)) h
+
+-- AND OF THE JOB: where document 01's table tells the page at place a, 12, 6 or 13 is told, at a place in that page
+pub page-told
+    : (b : List ℕ) (a : ℕ)
+    → firstRow oneRow b ≡ some (record { number = 6; place = a })
+    → (f : Fault) × (jobFault b ≡ some f) × OfPage f × Within a (pageSize (headerOf b .c)) (f .place)
+unfolding jobFault
+page-told b a e =
+    let w = exchange-alone (row 6 undivided) wrongPage (drop 6 rows) b (pages-same b) g behind (take 5 rows) front e in
+    told w (wrongPage b) refl
+  where
+    g : Fault
+    g = record { number = 6; place = a }
+
+    NotSix : Fault → Type 0
+    NotSix f = f .number ≡ 6 → ⊥
+
+    other : (n : ℕ) (x : Option ℕ) → eqb n 6 ≡ false → Tells NotSix (numbered n x)
+    other n x l = tells-row NotSix n x (λ p q. eqb-no n 6 .0 l)
+
+    behind : firstRow (drop 6 rows) b ≡ some g → ⊥
+    behind h = tells-rows NotSix (drop 6 rows) b (next (other _ _ refl) (next (other _ _ refl) (next (other _ _ refl) (next (other _ _ refl) end)))) g h refl
+
+    front : Each (λ (q : Refusal). q b ≡ some g → ⊥) (take 5 rows)
+    front =
+        next (λ h. other _ _ refl g h refl)
+        (next (λ h. other _ _ refl g h refl)
+        (next (λ h. other _ _ refl g h refl) (next (λ h. other _ _ refl g h refl) (next (λ h. other _ _ refl g h refl) end))))
+
+    told
+        : (row 6 undivided b ≡ some g) × (firstRow rows b ≡ wrongPage b)
+        → (o : Option Fault)
+        → wrongPage b ≡ o
+        → (f : Fault) × (firstRow rows b ≡ some f) × OfPage f × Within a (pageSize (headerOf b .c)) (f .place)
+    told w none d = absurd (Option·none-ne-some _ (sym (pages-same b .1 d) ∙ w .0))
+    told w (some f) d = (f, w .1 ∙ d, pages-number b f d, place-within b a f (place-of (undivided b) a (w .0)) d)

@@ -1,5 +1,5 @@
--- A walk over a list, member by member: what `firstOf` and `anyOf` say by places. The laws are about walks that count from 0; one that counts
--- from 1 is such a walk too (`first-from-1`, `any-from-1`).
+-- A walk over a list, member by member: what `firstOf` and `anyOf` say by places. The laws are about walks that count from 0, but for those about two
+-- walks at once; one that counts from 1 is such a walk too (`first-from-1`, `any-from-1`).
 use Prim.Native.Nat.{ℕ, zero, suc, _<_}
 use mathlib.Core.Path.{_≡_, refl, sym, ap, _∙_}
 use mathlib.Core.Logic.{_↔_, Iff·rfl}
