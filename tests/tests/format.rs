@@ -1,7 +1,9 @@
-//! docs/FORMAT.md: its dumps are the bytes, and its worked refusals are what is printed.
+//! docs/FORMAT.md: its dumps are the bytes, its worked refusals are what is printed, and the sums beside them come out.
 
 use std::fs;
+use std::iter::Peekable;
 use std::path::Path;
+use std::str::Chars;
 
 use chargefile_tests::check::{result_room, WORKING_MEMORY};
 use chargefile_tests::damage::NUMBERS;
@@ -96,4 +98,74 @@ fn the_worked_refusals() {
         numbers, all,
         "each row of the refusal table but 11, in the order of the checks"
     );
+}
+
+/// What a sum comes to, `x` and `/` before `+` and `-`. Its characters, without blanks.
+fn sum(text: &mut Peekable<Chars>) -> usize {
+    let mut value = product(text);
+    while let Some(sign) = text.next_if(|c| "+-".contains(*c)) {
+        let next = product(text);
+        value = if sign == '+' {
+            value + next
+        } else {
+            value - next
+        };
+    }
+    value
+}
+
+fn product(text: &mut Peekable<Chars>) -> usize {
+    let mut value = factor(text);
+    while let Some(sign) = text.next_if(|c| "x/".contains(*c)) {
+        let next = factor(text);
+        value = if sign == 'x' {
+            value * next
+        } else {
+            value / next
+        };
+    }
+    value
+}
+
+fn factor(text: &mut Peekable<Chars>) -> usize {
+    if text.next_if_eq(&'(').is_some() {
+        let value = sum(text);
+        assert_eq!(text.next(), Some(')'));
+        return value;
+    }
+    let mut value = None;
+    while let Some(digit) = text.next_if(char::is_ascii_digit) {
+        let digit = digit.to_digit(10).expect("a digit") as usize;
+        value = Some(10 * value.unwrap_or(0) + digit);
+    }
+    value.expect("a number")
+}
+
+/// Every `SUM = NUMBER` of a line: what the sum comes to, and the number.
+fn sums(line: &str) -> Vec<(usize, usize)> {
+    let of_a_sum = |c: char| c.is_ascii_digit() || " ()+-/x".contains(c);
+    let mut found = Vec::new();
+    for (at, _) in line.match_indices(" = ") {
+        let before = &line[..at];
+        let start = before.rfind(|c| !of_a_sum(c)).map_or(0, |last| last + 1);
+        let told = line[at + 3..].chars().take_while(char::is_ascii_digit);
+        if !before[start..].trim().is_empty() {
+            let (text, told) = (before[start..].replace(' ', ""), String::from_iter(told));
+            let mut rest = text.chars().peekable();
+            found.push((sum(&mut rest), told.parse().expect("a number")));
+            assert_eq!(rest.next(), None, "{line}");
+        }
+    }
+    found
+}
+
+#[test]
+fn the_worked_sums() {
+    let text = document();
+    let lines = section(&text, "### Worked refusals, made of job E");
+    let found: Vec<(usize, usize)> = lines.iter().flat_map(|line| sums(line)).collect();
+    for (comes_to, told) in &found {
+        assert_eq!(comes_to, told, "{found:?}");
+    }
+    assert!(found.len() >= 20, "only {} sums", found.len());
 }
