@@ -53,12 +53,12 @@ fn not_zero(page: &[u8], from: usize, place: usize) -> Spot
     if is_zero(page, from) {
         return Spot::Nowhere;
     }
-    let mut i = from;
-    while i < page.len() {
-        if page[i] != 0 {
-            return Spot::At(place + i);
+    let mut at = from;
+    while at < page.len() {
+        if page[at] != 0 {
+            return Spot::At(place + at);
         }
-        i += 1;
+        at += 1;
     }
     Spot::Nowhere
 }

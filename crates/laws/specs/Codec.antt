@@ -11,7 +11,6 @@ pub mod Places
 pub mod Rows
 pub mod Told
 pub mod Numbered
-pub mod Exchange
 pub mod Longest
 pub mod InUse
 pub mod Owner

@@ -5,7 +5,7 @@ use mathlib.Core.Path.{_≡_, refl, sym, ap, ap₂, _∙_}
 use mathlib.Core.List.{List, [], _∷_, _++_, map, append-assoc, append-nil}
 use native.Mathlib.Omega.{arith}
 use native.Mathlib.Nat.{mul-zero, add-assoc}
-use lib.ListN.{length, getD, take, drop, length-append, length-drop}
+use lib.ListN.{length, getD, take, drop, length-append, length-take, length-drop}
 use lib.Seq.{getD-take, getD-drop, drop-drop, take-add, take-at, drop-at, length-take-le}
 use Rattle.spec.specs.Basics.{each, Each, end, next}
 use Rattle.spec.specs.Bytes.{byte, word, long, parts}
@@ -50,6 +50,12 @@ parts-size zero size b l = end
 parts-size (suc n) size b l =
     let m = next-place size n in
     next (length-take-le size b (omega arith)) (parts-size n size (drop size b) (rw length-drop (omega arith)))
+
+-- and, whatever the bytes, no longer
+pub parts-short : (n size : ℕ) (b : List ℕ) → Each (λ p. length p ≤ size) (parts n size b)
+unfolding parts
+parts-short zero size b = end
+parts-short (suc n) size b = next {x = take size b} (rw length-take (omega arith)) (parts-short n size (drop size b))
 
 -- what is written one behind another: two lists of things, and one thing more
 module _ {A : Type 0} (enc : A → List ℕ) where

@@ -1,11 +1,13 @@
--- What is so of every fault that a row tells, is so of what a list of rows tells, and a walk.
+-- What is so of every fault that a row tells, is so of what a list of rows tells, and a walk; and so of a page, row by row.
 use Prim.Native.Nat.{ℕ, suc}
 use mathlib.Core.Path.{_≡_, refl, subst}
 use mathlib.Core.List.{List, [], _∷_}
 use mathlib.Core.Option.{Option, none, some, Option·none-ne-some}
-use Rattle.spec.specs.Basics.{orElse, firstOf, Each}
-use Rattle.spec.specs.Check.{Fault, numbered, Refusal, firstRow}
-use Rattle.laws.specs.Tools.{first, rest}
+use Rattle.spec.specs.Basics.{orElse, firstOf, Each, end, next}
+use Rattle.spec.specs.Job.{Header, pagePlace}
+use Rattle.spec.specs.Decode.{headerOf}
+use Rattle.spec.specs.Check.{Fault, numbered, Refusal, row, firstRow, wrongPattern, overCount, notZero, notCleared, pageFault, wrongPage}
+use Rattle.laws.specs.Tools.{if-case, first, rest}
 
 -- a fault that is told has the property P
 abbrev pub Tells : (Fault → Type 0) → Option Fault → Type 0
@@ -34,3 +36,16 @@ module _ (P : Fault → Type 0) where
   unfolding firstOf
   tells-walk f i [] h = tells-none
   tells-walk f i (x ∷ xs) h = tells-either _ _ (h i x) (tells-walk f (suc i) xs h)
+
+  -- the rows of page x, which has the bytes p and begins at place a
+  pub page-tells
+      : (h : Header) (x : ℕ) (p : List ℕ)
+      → let a = pagePlace h x in
+      Tells P (row 12 (wrongPattern (h .g) a) p) → Tells P (row 6 (overCount (h .c) a) p) → Tells P (row 13 (notCleared a) p) → Tells P (row 13 (notZero a) p) → Tells P (pageFault h x p)
+  unfolding pageFault
+  page-tells h x p r12 r6 r13 unused =
+      tells-rows _ p (if-case (Each (λ (r : Refusal). Tells P (r p))) (λ e. next unused end) (λ e. next r12 (next r6 (next r13 end))))
+
+  pub pages-tell : (b : List ℕ) → ((x : ℕ) (p : List ℕ) → Tells P (pageFault (headerOf b) x p)) → Tells P (wrongPage b)
+  unfolding wrongPage
+  pages-tell b h = tells-walk _ 1 _ h

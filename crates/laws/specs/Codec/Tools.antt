@@ -3,7 +3,7 @@
 use Prim.Native.Nat.{ℕ, zero, suc, _<_, _≤_}
 use mathlib.Core.Path.{_≡_, refl, sym}
 use mathlib.Core.Logic.{_↔_, Iff·rfl}
-use mathlib.Core.List.{List, [], _∷_, map}
+use mathlib.Core.List.{List, [], _∷_, _++_, map}
 use mathlib.Core.Bool.{Bool, true, false, not, _&&_, _||_, true≢false, false≢true}
 use mathlib.Core.Option.{Option, none, some, Option·none-ne-some}
 use native.Mathlib.Omega.{arith}
@@ -65,6 +65,11 @@ unfolding orElse
 orElse-none none y = (λ e. (refl, e), λ e. e .1)
 orElse-none (some a) y = (λ e. absurd (Option·none-ne-some _ (sym e)), λ e. e .0)
 
+or-else-assoc : {A : Type 0} (x y z : Option A) → orElse x (orElse y z) ≡ orElse (orElse x y) z
+unfolding orElse
+or-else-assoc none y z = refl
+or-else-assoc (some a) y z = refl
+
 pub among-none : (x : Option ℕ) (xs : List (Option ℕ)) → among (x ∷ xs) ≡ none ↔ (x ≡ none) × (among xs ≡ none)
 unfolding among
 among-none x xs = orElse-none x (among xs)
@@ -85,6 +90,14 @@ row-none r rs b = orElse-none (r b) (firstRow rs b)
 pub row-end : (b : List ℕ) → firstRow [] b ≡ none ↔ Unit {0}
 unfolding firstRow
 row-end b = (λ e. tt, λ u. refl)
+
+-- a row among others
+pub rows-split
+    : (front : List Refusal) (r : Refusal) (back : List Refusal) (b : List ℕ)
+    → firstRow (front ++ r ∷ back) b ≡ orElse (firstRow front b) (orElse (r b) (firstRow back b))
+unfolding firstRow orElse
+rows-split [] r back b = refl
+rows-split (q ∷ front) r back b = rw (rows-split front r back b) (or-else-assoc (q b) _ _)
 
 -- what it says that a test does not hold
 pub ruleset failed = (or-no, and-no, not-no, not-yes, ltb-no, ltb-yes, leb-no, eqb-no, eqb-yes, outside-no, when-none)

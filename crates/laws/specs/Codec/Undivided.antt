@@ -1,25 +1,25 @@
 -- Document 01's table has one row for all faults of a page, told at the page; document 02 divides it into 12, 6 and 13. Between the two: no fault is
 -- added or lost, the faults that other rows tell stay as they are, and where the one row tells a page, one of the three tells a place in that page.
-use Prim.Native.Nat.{ℕ, zero, suc, _+_, _*_, _^_, _<_, _≤_}
+use Prim.Native.Nat.{ℕ, _+_, _*_, _^_, _<_, _≤_}
 use mathlib.Core.Path.{_≡_, refl, sym, ap, _∙_}
-use mathlib.Core.Logic.{_↔_, Iff·rfl, _⊎_, inl, inr}
+use mathlib.Core.Logic.{_↔_, Iff·rfl, inl, inr}
 use mathlib.Core.List.{List, [], _∷_, _++_}
 use mathlib.Core.Bool.{Bool, true, false, not, _&&_, _||_}
 use mathlib.Core.Option.{Option, none, some, Option·none-ne-some}
 use native.Mathlib.Omega.{arith}
-use lib.Dec.{ltb, leb, eqb}
-use lib.ListN.{length, take, drop, length-take, length-drop}
-use Rattle.spec.specs.Basics.{when, orElse, among, firstOf, Each, end, next}
-use Rattle.spec.specs.Bytes.{byte, word, parts}
+use lib.Dec.{ltb, leb}
+use lib.ListN.{length, take, drop, length-drop}
+use Rattle.spec.specs.Basics.{when, orElse, among, firstOf}
+use Rattle.spec.specs.Bytes.{byte, word}
 use Rattle.spec.specs.Job.{Header, recordSize, pageSize, pagePlace}
 use Rattle.spec.specs.Decode.{headerOf, pageParts}
 use Rattle.spec.specs.Check.{Fault, numbered, Refusal, row, firstRow, wrongPattern, overCount, notCleared, pageFault, wrongPage, rows, jobFault}
-use Rattle.laws.specs.Tools.{if-case}
-use Rattle.laws.specs.Codec.Tools.{failed, eqb-no, numbered-none}
+use Rattle.laws.specs.Codec.Tools.{failed, orElse-none, numbered-none, rows-split}
 use Rattle.laws.specs.Codec.Walk.{first-same, first-both}
 use Rattle.laws.specs.Codec.Zeros.{zeros, not-zero-said}
-use Rattle.laws.specs.Codec.Exchange.{exchange-none, exchange-other, exchange-alone}
-use Rattle.laws.specs.Codec.Told.{Tells, tells-row, tells-rows, tells-walk}
+use Rattle.laws.specs.Codec.Parts.{parts-short}
+use Rattle.laws.specs.Codec.Told.{Tells, tells-row, page-tells}
+use Rattle.laws.specs.Codec.Numbered.{OfPage, pages-number, front-number, back-number}
 use Rattle.laws.specs.Codec.Pages.{PageFine, page-fine}
 
 -- document 01, 6 page: "l above g, pattern 2^l or more, count above c, or an unused record or unused page not zero". Page x has the bytes p
@@ -50,43 +50,47 @@ pub pages-same : (b : List ℕ) → row 6 undivided b ≡ none ↔ wrongPage b �
 unfolding undivided wrongPage
 pages-same b = simp numbered-none (first-same _ _ (page-same (headerOf b)) 1 (pageParts (headerOf b) b))
 
--- ---- THE OTHER ROWS STAY
-
 -- the table with document 01's row 6
 abbrev pub oneRow : List Refusal
 oneRow = take 5 rows ++ row 6 undivided ∷ drop 6 rows
 
+-- what is told: by the rows before, by the one row or by the three, by the rows behind
+module _ (b : List ℕ) where
+  abbrev front : Option Fault
+  front = firstRow (take 5 rows) b
+
+  abbrev back : Option Fault
+  back = firstRow (drop 6 rows) b
+
+  one : firstRow oneRow b ≡ orElse front (orElse (row 6 undivided b) back)
+  one = rows-split (take 5 rows) (row 6 undivided) (drop 6 rows) b
+
+  three : jobFault b ≡ orElse front (orElse (wrongPage b) back)
+  unfolding jobFault
+  three = rows-split (take 5 rows) wrongPage (drop 6 rows) b
+
 pub accepted-same : (b : List ℕ) → firstRow oneRow b ≡ none ↔ jobFault b ≡ none
-unfolding jobFault
-accepted-same b = exchange-none (row 6 undivided) wrongPage (drop 6 rows) b (pages-same b) (take 5 rows)
+accepted-same b = rw (one b, three b) (simp (orElse-none, pages-same b) Iff·rfl)
 
--- the numbers of the rows that divide it
-abbrev pub OfPage : Fault → Type 0
-OfPage f = (f .number ≡ 12) ⊎ (f .number ≡ 6) ⊎ (f .number ≡ 13)
+-- ---- THE OTHER ROWS STAY
 
-page-number : (h : Header) (x : ℕ) (p : List ℕ) → Tells OfPage (pageFault h x p)
-unfolding pageFault
-page-number h x p =
-    tells-rows OfPage _ p
-    (if-case (Each (λ (r : Refusal). Tells OfPage (r p))) (λ e. next (tells-row OfPage 13 _ (λ q z. inr (inr refl))) end)
-    (λ e.
-    next (tells-row OfPage 12 _ (λ q z. inl refl))
-    (next (tells-row OfPage 6 _ (λ q z. inr (inl refl))) (next (tells-row OfPage 13 _ (λ q z. inr (inr refl))) end))))
-
-pages-number : (b : List ℕ) → Tells OfPage (wrongPage b)
-unfolding wrongPage
-pages-number b = tells-walk OfPage _ 1 _ (page-number (headerOf b))
+-- with p in the place of o, a fault that o does not tell stays
+kept : (x o p z : Option Fault) (f : Fault) → o ≡ none ↔ p ≡ none → (o ≡ some f → ⊥) → orElse x (orElse o z) ≡ some f → orElse x (orElse p z) ≡ some f
+unfolding orElse
+kept (some g) o p z f same n e = e
+kept none none none z f same n e = e
+kept none none (some g) z f same n e = absurd (Option·none-ne-some _ (sym (same .0 refl)))
+kept none (some g) p z f same n e = absurd (n e)
 
 row-number : (n : ℕ) (x : Option ℕ) (f : Fault) → numbered n x ≡ some f → f .number ≡ n
 row-number n x f e = tells-row (λ g. g .number ≡ n) n x (λ p q. refl) f e
 
 -- a fault of another row has the number and the place that it has
 pub others-same : (b : List ℕ) (f : Fault) → (OfPage f → ⊥) → firstRow oneRow b ≡ some f ↔ jobFault b ≡ some f
-unfolding jobFault
-others-same b f other = (
-  exchange-other (row 6 undivided) wrongPage (drop 6 rows) b (pages-same b) f (λ e. other (inr (inl (row-number 6 _ f e)))) (take 5 rows),
-  exchange-other wrongPage (row 6 undivided) (drop 6 rows) b (pages-same b .1, pages-same b .0) f (λ e. other (pages-number b f e)) (take 5 rows),
-)
+others-same b f other =
+    let same = pages-same b in
+    rw (one b, three b)
+    (kept (front b) _ _ (back b) f same (λ e. other (inr (inl (row-number 6 _ f e)))), kept (front b) _ _ (back b) f (same .1, same .0) (λ e. other (pages-number b f e)))
 
 -- ---- THE PLACE LIES IN THE PAGE
 
@@ -106,21 +110,13 @@ when-within true a p e = cc
 when-within false a p e = absurd (Option·none-ne-some _ e)
 
 page-within : (h : Header) (x : ℕ) (p : List ℕ) → length p ≤ pageSize (h .c) → Tells (λ f. Within (pagePlace h x) (pageSize (h .c)) (f .place)) (pageFault h x p)
-unfolding pageFault wrongPattern overCount notCleared
+unfolding wrongPattern overCount notCleared
 page-within h x p l =
     let In : Fault → Type 0 = λ f. Within (pagePlace h x) (pageSize (h .c)) (f .place) in
-    tells-rows In _ p
-    (if-case (Each (λ (r : Refusal). Tells In (r p)))
-    (λ e. next (tells-row In 13 _ (λ q z. let w = not-zero-said _ p q z in (w .from, omega (arith, w .within)))) end)
-    (λ e.
-    next (tells-row In 12 _ (λ q z. let w = pattern-within _ _ _ q z in (omega arith, omega arith)))
-    (next (tells-row In 6 _ (λ q z. let w = when-within _ _ q z in (omega arith, omega arith)))
-    (next (tells-row In 13 _ (λ q z. let w = not-zero-said _ _ q z in let m = length-drop (4 + recordSize * byte p 1) p in (omega (arith, w .from), omega (arith, w .within)))) end))))
-
-parts-short : (n size : ℕ) (b : List ℕ) → Each (λ p. length p ≤ size) (parts n size b)
-unfolding parts
-parts-short zero size b = end
-parts-short (suc n) size b = next {x = take size b} (rw length-take (omega arith)) (parts-short n size (drop size b))
+    page-tells In h x p (tells-row In 12 _ (λ q z. let w = pattern-within _ _ _ q z in (omega arith, omega arith)))
+    (tells-row In 6 _ (λ q z. let w = when-within _ _ q z in (omega arith, omega arith)))
+    (tells-row In 13 _ (λ q z. let w = not-zero-said _ _ q .0 z in let m = length-drop (4 + recordSize * byte p 1) p in (omega (arith, w .from), omega (arith, w .within))))
+    (tells-row In 13 _ (λ q z. let w = not-zero-said _ p q .0 z in (w .from, omega (arith, w .within))))
 
 -- where the one row tells page x, the three tell a place in page x
 pub place-within : (b : List ℕ) (a : ℕ) (f : Fault) → undivided b ≡ some a → wrongPage b ≡ some f → Within a (pageSize (headerOf b .c)) (f .place)
@@ -137,38 +133,20 @@ place-of (some q) p e =
     let h : _≡_ {A = Fault} (record { number = 6; place = q }) (record { number = 6; place = p }) = cc in
     ap (λ (f : Fault). some (f .place)) h
 
+-- with p in the place of o, a fault that only o tells gives way to one that p tells
+instead : (x o p z : Option Fault) (f : Fault) → o ≡ none ↔ p ≡ none → (x ≡ some f → ⊥) → (z ≡ some f → ⊥) → orElse x (orElse o z) ≡ some f → (o ≡ some f) × (g : Fault) × (p ≡ some g) × (orElse x (orElse p z) ≡ some g)
+unfolding orElse
+instead (some g) o p z f same n m e = absurd (n e)
+instead none none p z f same n m e = absurd (m e)
+instead none (some g) none z f same n m e = absurd (Option·none-ne-some _ (sym (same .1 refl)))
+instead none (some g) (some h) z f same n m e = (e, h, refl, refl)
+
 -- AND OF THE JOB: where document 01's table tells the page at place a, 12, 6 or 13 is told, at a place in that page
 pub page-told
     : (b : List ℕ) (a : ℕ)
     → firstRow oneRow b ≡ some (record { number = 6; place = a })
     → (f : Fault) × (jobFault b ≡ some f) × OfPage f × Within a (pageSize (headerOf b .c)) (f .place)
-unfolding jobFault
 page-told b a e =
-    let w = exchange-alone (row 6 undivided) wrongPage (drop 6 rows) b (pages-same b) g behind (take 5 rows) front e in
-    told w (wrongPage b) refl
-  where
-    g : Fault
-    g = record { number = 6; place = a }
-
-    NotSix : Fault → Type 0
-    NotSix f = f .number ≡ 6 → ⊥
-
-    other : (n : ℕ) (x : Option ℕ) → eqb n 6 ≡ false → Tells NotSix (numbered n x)
-    other n x l = tells-row NotSix n x (λ p q. eqb-no n 6 .0 l)
-
-    behind : firstRow (drop 6 rows) b ≡ some g → ⊥
-    behind h = tells-rows NotSix (drop 6 rows) b (next (other _ _ refl) (next (other _ _ refl) (next (other _ _ refl) (next (other _ _ refl) end)))) g h refl
-
-    front : Each (λ (q : Refusal). q b ≡ some g → ⊥) (take 5 rows)
-    front =
-        next (λ h. other _ _ refl g h refl)
-        (next (λ h. other _ _ refl g h refl)
-        (next (λ h. other _ _ refl g h refl) (next (λ h. other _ _ refl g h refl) (next (λ h. other _ _ refl g h refl) end))))
-
-    told
-        : (row 6 undivided b ≡ some g) × (firstRow rows b ≡ wrongPage b)
-        → (o : Option Fault)
-        → wrongPage b ≡ o
-        → (f : Fault) × (firstRow rows b ≡ some f) × OfPage f × Within a (pageSize (headerOf b .c)) (f .place)
-    told w none d = absurd (Option·none-ne-some _ (sym (pages-same b .1 d) ∙ w .0))
-    told w (some f) d = (f, w .1 ∙ d, pages-number b f d, place-within b a f (place-of (undivided b) a (w .0)) d)
+    let six : Fault = record { number = 6; place = a } in
+    let w = instead (front b) (row 6 undivided b) (wrongPage b) (back b) six (pages-same b) (λ h. front-number b six h .other refl) (λ h. back-number b six h .other refl) (sym (one b) ∙ e) in
+    (w .1, three b ∙ w .3, pages-number b (w .1) (w .2), place-within b a (w .1) (place-of (undivided b) a (w .0)) (w .2))

@@ -1,12 +1,12 @@
--- Bytes that should be zero: row 13 finds none that is not exactly if all are.
+-- Bytes that should be zero: what it means that row 13 tells no place, and what place it tells.
 use Prim.Native.Nat.{ℕ, zero, suc, _+_, _-_, _<_, _≤_}
-use mathlib.Core.Path.{_≡_, refl}
+use mathlib.Core.Path.{_≡_, refl, ap, _∙_}
 use mathlib.Core.Logic.{_↔_, Iff·rfl, by-cases}
 use mathlib.Core.List.{List, [], _∷_}
 use mathlib.Core.Bool.{Bool, true, false, not, _&&_, and-eq-true-iff}
-use mathlib.Core.Option.{none, some, Option·none-ne-some}
+use mathlib.Core.Option.{Option, none, some, Option·none-ne-some}
 use native.Mathlib.Omega.{arith}
-use native.Mathlib.Decide.{ℕ-discrete}
+use native.Mathlib.Decide.{ℕ-discrete, decLt}
 use lib.Dec.{eqb}
 use lib.ListN.{length, drop, replicate}
 use Rattle.spec.specs.Basics.{when, orElse, firstOf}
@@ -25,17 +25,34 @@ unfolding notZero firstOf zeros
 not-zero-none a [] = (λ e. refl, λ e. refl)
 not-zero-none a (x ∷ s) = simp (orElse-none, failed, and-eq-true-iff, not-zero-none (suc a) s) Iff·rfl
 
--- ROW 13, WITH NO WORD OF WALKS: at place p stands the first byte of s, the first of which stands at place a, that is not zero
+pub zeros-byte : (b : List ℕ) → zeros b ≡ true → (p : ℕ) → byte b p ≡ 0
+unfolding zeros byte
+zeros-byte [] e p = refl
+zeros-byte (x ∷ b) e zero = (simp (and-eq-true-iff, failed) at e) .0
+zeros-byte (x ∷ b) e (suc p) = zeros-byte b ((simp and-eq-true-iff at e) .1) p
+
+pub zeros-drop : (b : List ℕ) (n : ℕ) → zeros b ≡ true → zeros (drop n b) ≡ true
+unfolding zeros
+zeros-drop b zero e = e
+zeros-drop [] (suc n) e = refl
+zeros-drop (x ∷ b) (suc n) e = zeros-drop b n ((simp and-eq-true-iff at e) .1)
+
+pub zeros-replicate : (n : ℕ) → zeros (replicate n 0) ≡ true
+unfolding zeros
+zeros-replicate zero = refl
+zeros-replicate (suc n) = zeros-replicate n
+
+-- at place p stands the first byte of s that is not zero; s itself begins at place a
 pub record FirstSet (a : ℕ) (s : List ℕ) (p : ℕ) : Type 0 where
   pub from : a ≤ p
   pub within : p < a + length s
   pub set : byte s (p - a) ≡ 0 → ⊥
   pub before : (q : ℕ) → a ≤ q → q < p → byte s (q - a) ≡ 0
 
-pub not-zero-said : (a : ℕ) (s : List ℕ) (p : ℕ) → notZero a s ≡ some p → FirstSet a s p
+first-set : (a : ℕ) (s : List ℕ) (p : ℕ) → notZero a s ≡ some p → FirstSet a s p
 unfolding notZero firstOf when orElse byte
-not-zero-said a [] p = λ e. absurd (Option·none-ne-some _ e)
-not-zero-said a (x ∷ s) p = by (eqb x 0) refl (not-zero-said (suc a) s p)
+first-set a [] p = λ e. absurd (Option·none-ne-some _ e)
+first-set a (x ∷ s) p = by (eqb x 0) refl (first-set (suc a) s p)
   where
     by
         : (t : Bool)
@@ -57,19 +74,16 @@ not-zero-said a (x ∷ s) p = by (eqb x 0) refl (not-zero-said (suc a) s p)
             by-cases (ℕ-discrete q a) (λ (h : q ≡ a). let k : q - a ≡ 0 = omega arith in rw k (eqb-yes x 0 .0 z))
             (λ n. let k : q - a ≡ suc (q - suc a) = omega (arith, n) in rw k (w .before q (omega (arith, n)) u))
 
-pub zeros-byte : (b : List ℕ) → zeros b ≡ true → (p : ℕ) → byte b p ≡ 0
-unfolding zeros byte
-zeros-byte [] e p = refl
-zeros-byte (x ∷ b) e zero = (simp (and-eq-true-iff, failed) at e) .0
-zeros-byte (x ∷ b) e (suc p) = zeros-byte b ((simp and-eq-true-iff at e) .1) p
+-- ROW 13, WITH NO WORD OF WALKS
+pub not-zero-said : (a : ℕ) (s : List ℕ) (p : ℕ) → notZero a s ≡ some p ↔ FirstSet a s p
+not-zero-said a s p = (first-set a s p, λ w. by w (notZero a s) refl)
+  where
+    -- two first ones are the same
+    alone : FirstSet a s p → (q : ℕ) → FirstSet a s q → q ≡ p
+    alone w q v =
+        by-cases (decLt q p) (λ l. absurd (v .set (w .before q (v .from) l)))
+        (λ n. by-cases (decLt p q) (λ l. absurd (w .set (v .before p (w .from) l))) (λ m. omega (arith, n, m)))
 
-pub zeros-drop : (b : List ℕ) (n : ℕ) → zeros b ≡ true → zeros (drop n b) ≡ true
-unfolding zeros
-zeros-drop b zero e = e
-zeros-drop [] (suc n) e = refl
-zeros-drop (x ∷ b) (suc n) e = zeros-drop b n ((simp and-eq-true-iff at e) .1)
-
-pub zeros-replicate : (n : ℕ) → zeros (replicate n 0) ≡ true
-unfolding zeros
-zeros-replicate zero = refl
-zeros-replicate (suc n) = zeros-replicate n
+    by : FirstSet a s p → (o : Option ℕ) → notZero a s ≡ o → notZero a s ≡ some p
+    by w none e = absurd (w .set (zeros-byte s (not-zero-none a s .0 e) (p - a)))
+    by w (some q) e = e ∙ ap some (alone w q (first-set a s q e))

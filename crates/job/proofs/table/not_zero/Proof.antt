@@ -10,12 +10,12 @@ use Rattle.job.proofs.Zeros.{not-zero-next, not-zero-hit, not-zero-end}
 use Rattle.job.proofs.table.not_zero.Statement.{statement}
 use Rattle.job.proofs.table.not_zero.Tie as tie
 
--- the bytes before place i are zero
+-- the bytes before byte `at` are zero
 abbrev Inv-loop : tie.InvT-loop
-Inv-loop page from place i₀ i = (from ≤ i) × (i ≤ length page) × (notZero (place + from) (drop from page) ≡ notZero (place + i) (drop i page))
+Inv-loop page from place at₀ at = (from ≤ at) × (at ≤ length page) × (notZero (place + from) (drop from page) ≡ notZero (place + at) (drop at page))
 
 abbrev μ-loop : tie.MeasureT-loop
-μ-loop page from place i₀ i = length page - i
+μ-loop page from place at₀ at = length page - at
 
 is-zero-requires : tie.Need-is-zero-requires Inv-loop μ-loop
 is-zero-requires c κs = (omega arith, omega arith)
@@ -39,8 +39,8 @@ returns-2 c =
     let a = c .before .before .before in
     rw (a .loop .inv .2, not-zero-hit _ _ _ (c .before .before .loop-test .taken) (c .if2 .taken))
 
-add-i : tie.Need-add-i Inv-loop μ-loop
-add-i c = omega arith
+add-at : tie.Need-add-at Inv-loop μ-loop
+add-at c = omega arith
 
 loop-less : tie.Need-loop-less Inv-loop μ-loop
 loop-less c = omega arith
@@ -66,7 +66,7 @@ not-zero-spec =
     shared-slice-read-if2
     add-t10
     returns-2
-    add-i
+    add-at
     loop-less
     loop-again
     returns-3)
