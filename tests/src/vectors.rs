@@ -4,7 +4,8 @@
 //! One case is all files of one name, and the suffix says what each is: `job`;
 //! `room`, what is lent, as text (without it, enough); `out`, the whole result,
 //! or in its place `refused`, number and place as text; `print`, what
-//! `chargelog` prints, which lends enough itself.
+//! `chargelog` prints, which lends enough itself. Those in the folder `printed`
+//! came with the text alone.
 
 use std::collections::{BTreeMap, BTreeSet};
 use std::ffi::OsStr;
@@ -16,7 +17,7 @@ use crate::check::WORKING_MEMORY;
 use crate::run::Outcome;
 
 /// How many there are: a test of no vectors would always pass.
-const STORED: usize = 238;
+const STORED: usize = 365;
 
 /// Enough for every job: bytes of the result buffer, rows, and bytes of other
 /// working memory.
@@ -30,20 +31,20 @@ pub struct Vector {
     /// What is lent: bytes of the result buffer, rows, and bytes of other
     /// working memory.
     pub room: (usize, usize, usize),
-    /// What a run with that much lent comes to.
-    pub wanted: Outcome,
+    /// What a run with that much lent comes to, if that is stored.
+    pub wanted: Option<Outcome>,
     /// What `chargelog` prints.
     pub print: Vec<u8>,
 }
 
 impl Vector {
-    /// What a check of the job says; 11 is about what is lent, and not about
-    /// the job's bytes.
+    /// What a check of the job says: `chargelog` prints it, since it lends
+    /// enough for every job and so never refuses with 11.
     pub fn checked(&self) -> Option<(u32, u32)> {
-        match self.wanted {
-            Outcome::Refused { number, place } if number != 11 => Some((number, place)),
-            _ => None,
-        }
+        let text = std::str::from_utf8(&self.print).expect("text");
+        let mut words = text.strip_prefix("refused ")?.split_whitespace();
+        let mut number = || words.next().expect("a number").parse().expect("a number");
+        Some((number(), number()))
     }
 }
 
@@ -96,14 +97,16 @@ pub fn read(name: &str) -> Vector {
     }
 }
 
-/// A result, or a refusal, but not both.
-fn wanted(name: &str) -> Outcome {
+/// A result, or a refusal, but not both; neither only where the text is stored
+/// alone.
+fn wanted(name: &str) -> Option<Outcome> {
     match (bytes(name, "out"), numbers(name, "refused").as_deref()) {
-        (Some(result), None) => Outcome::Done { result },
-        (None, Some([number, place])) => Outcome::Refused {
+        (Some(result), None) => Some(Outcome::Done { result }),
+        (None, Some([number, place])) => Some(Outcome::Refused {
             number: *number as u32,
             place: *place as u32,
-        },
+        }),
+        (None, None) if name.starts_with("printed/") => None,
         (out, refused) => panic!("{name}: out {}, refused {refused:?}", out.is_some()),
     }
 }

@@ -27,17 +27,19 @@ fn agree(job: &[u8], result: usize, rows: usize, memory: usize) -> Outcome {
     wanted
 }
 
-/// It comes to what is stored, whatever the tests' own implementation says; more lent than stored changes nothing but a refusal for too little. The
-/// last name printed is that of a vector that fails.
+/// It comes to what is stored, or, where only the text is, to what the tests' own implementation says; more lent than stored changes nothing but a
+/// refusal for too little. The last name printed is that of a vector that fails.
 #[test]
 fn every_vector() {
     for vector in vectors::all() {
         println!("{}", vector.name);
-        linked::comes_to(&vector.job, vector.room, &vector.wanted);
         let (result, rows, memory) = vector.room;
-        if !matches!(vector.wanted, Outcome::Refused { number: 11, .. }) {
+        let own = run(&vector.job, result, rows, memory);
+        let wanted = vector.wanted.unwrap_or(own);
+        linked::comes_to(&vector.job, vector.room, &wanted);
+        if !matches!(wanted, Outcome::Refused { number: 11, .. }) {
             let more = (result + 100, rows + 3, memory + 50);
-            linked::comes_to(&vector.job, more, &vector.wanted);
+            linked::comes_to(&vector.job, more, &wanted);
         }
     }
 }

@@ -1,5 +1,5 @@
 //! Every stored job comes to what is stored beside it, to the byte, and prints its text. The jobs came with the documents and were not made here:
-//! `marked-` are the marked jobs and `full-` the largest, others have one fault or two, by their names, or a number only.
+//! `marked-` are the marked jobs and `full-` the largest; others are named by their fault, by their refusal, or by a number only.
 
 use std::collections::BTreeMap;
 
@@ -22,11 +22,8 @@ fn every_vector_is_run_or_refused() {
     for vector in all() {
         let (result, rows, memory) = vector.room;
         let outcome = run(&vector.job, result, rows, memory);
-        if outcome != vector.wanted {
-            wrong.push(format!(
-                "{}: {outcome:?}, wanted: {:?}",
-                vector.name, vector.wanted
-            ));
+        if let Some(wanted) = vector.wanted.filter(|wanted| *wanted != outcome) {
+            wrong.push(format!("{}: {outcome:?}, wanted: {wanted:?}", vector.name));
         }
     }
     none_differ(&wrong);
@@ -61,7 +58,7 @@ fn the_vectors_are_all_there() {
         let (folder, _) = name.split_once('/').expect("a folder");
         *folders.entry(folder.to_string()).or_default() += 1;
     }
-    let wanted = [("00-base", 176), ("01-page-faults", 62)];
+    let wanted = [("00-base", 176), ("01-page-faults", 62), ("printed", 127)];
     let wanted = wanted.map(|(folder, vectors)| (folder.to_string(), vectors));
     assert_eq!(folders, BTreeMap::from(wanted));
 }
