@@ -49,3 +49,7 @@ module _ (P : Fault → Type 0) where
   pub pages-tell : (b : List ℕ) → ((x : ℕ) (p : List ℕ) → Tells P (pageFault (headerOf b) x p)) → Tells P (wrongPage b)
   unfolding wrongPage
   pages-tell b h = tells-walk _ 1 _ h
+
+-- what the fault of a row of one number tells
+pub numbered-some : (n : ℕ) (x : Option ℕ) (f : Fault) → numbered n x ≡ some f → (f .number ≡ n) × (x ≡ some (f .place))
+numbered-some n x f e = tells-row (λ g. (g .number ≡ n) × (x ≡ some (g .place))) n x (λ p z. (refl, z)) f e

@@ -60,6 +60,11 @@ unfolding when
 when-none true p = (λ e. absurd (Option·none-ne-some _ (sym e)), λ e. absurd (true≢false e))
 when-none false p = (λ e. refl, λ e. refl)
 
+pub when-some : (t : Bool) (p q : ℕ) → when t p ≡ some q → p ≡ q
+unfolding when
+when-some true p q e = cc
+when-some false p q e = absurd (Option·none-ne-some _ e)
+
 pub orElse-none : {A : Type 0} (x y : Option A) → orElse x y ≡ none ↔ (x ≡ none) × (y ≡ none)
 unfolding orElse
 orElse-none none y = (λ e. (refl, e), λ e. e .1)

@@ -1,7 +1,7 @@
 -- Document 01's table has one row for all faults of a page, told at the page; document 02 divides it into 12, 6 and 13. Between the two: no fault is
 -- added or lost, the faults that other rows tell stay as they are, and where the one row tells a page, one of the three tells a place in that page.
 use Prim.Native.Nat.{ℕ, _+_, _*_, _^_, _<_, _≤_}
-use mathlib.Core.Path.{_≡_, refl, sym, ap, _∙_}
+use mathlib.Core.Path.{_≡_, refl, sym, _∙_}
 use mathlib.Core.Logic.{_↔_, Iff·rfl, inl, inr}
 use mathlib.Core.List.{List, [], _∷_, _++_}
 use mathlib.Core.Bool.{Bool, true, false, not, _&&_, _||_}
@@ -13,12 +13,12 @@ use Rattle.spec.specs.Basics.{when, orElse, among, firstOf}
 use Rattle.spec.specs.Bytes.{byte, word}
 use Rattle.spec.specs.Job.{Header, recordSize, pageSize, pagePlace}
 use Rattle.spec.specs.Decode.{headerOf, pageParts}
-use Rattle.spec.specs.Check.{Fault, numbered, Refusal, row, firstRow, wrongPattern, overCount, notCleared, pageFault, wrongPage, rows, jobFault}
-use Rattle.laws.specs.Codec.Tools.{failed, orElse-none, numbered-none, rows-split}
+use Rattle.spec.specs.Check.{Fault, Refusal, row, firstRow, wrongPattern, overCount, notCleared, pageFault, wrongPage, rows, jobFault}
+use Rattle.laws.specs.Codec.Tools.{failed, when-some, orElse-none, numbered-none, rows-split}
 use Rattle.laws.specs.Codec.Walk.{first-same, first-both}
 use Rattle.laws.specs.Codec.Zeros.{zeros, not-zero-said}
 use Rattle.laws.specs.Codec.Parts.{parts-short}
-use Rattle.laws.specs.Codec.Told.{Tells, tells-row, page-tells}
+use Rattle.laws.specs.Codec.Told.{Tells, tells-row, page-tells, numbered-some}
 use Rattle.laws.specs.Codec.Numbered.{OfPage, pages-number, front-number, back-number}
 use Rattle.laws.specs.Codec.Pages.{PageFine, page-fine}
 
@@ -82,15 +82,12 @@ kept none none none z f same n e = e
 kept none none (some g) z f same n e = absurd (Option·none-ne-some _ (sym (same .0 refl)))
 kept none (some g) p z f same n e = absurd (n e)
 
-row-number : (n : ℕ) (x : Option ℕ) (f : Fault) → numbered n x ≡ some f → f .number ≡ n
-row-number n x f e = tells-row (λ g. g .number ≡ n) n x (λ p q. refl) f e
-
 -- a fault of another row has the number and the place that it has
 pub others-same : (b : List ℕ) (f : Fault) → (OfPage f → ⊥) → firstRow oneRow b ≡ some f ↔ jobFault b ≡ some f
 others-same b f other =
     let same = pages-same b in
     rw (one b, three b)
-    (kept (front b) _ _ (back b) f same (λ e. other (inr (inl (row-number 6 _ f e)))), kept (front b) _ _ (back b) f (same .1, same .0) (λ e. other (pages-number b f e)))
+    (kept (front b) _ _ (back b) f same (λ e. other (inr (inl (numbered-some 6 _ f e .0)))), kept (front b) _ _ (back b) f (same .1, same .0) (λ e. other (pages-number b f e)))
 
 -- ---- THE PLACE LIES IN THE PAGE
 
@@ -104,17 +101,12 @@ pattern-within true t a p e = let z : a ≡ p = cc in (omega arith, omega arith)
 pattern-within false true a p e = let z : a + 2 ≡ p = cc in (omega arith, omega arith)
 pattern-within false false a p e = absurd (Option·none-ne-some _ e)
 
-when-within : (t : Bool) (a p : ℕ) → when t a ≡ some p → a ≡ p
-unfolding when
-when-within true a p e = cc
-when-within false a p e = absurd (Option·none-ne-some _ e)
-
 page-within : (h : Header) (x : ℕ) (p : List ℕ) → length p ≤ pageSize (h .c) → Tells (λ f. Within (pagePlace h x) (pageSize (h .c)) (f .place)) (pageFault h x p)
 unfolding wrongPattern overCount notCleared
 page-within h x p l =
     let In : Fault → Type 0 = λ f. Within (pagePlace h x) (pageSize (h .c)) (f .place) in
     page-tells In h x p (tells-row In 12 _ (λ q z. let w = pattern-within _ _ _ q z in (omega arith, omega arith)))
-    (tells-row In 6 _ (λ q z. let w = when-within _ _ q z in (omega arith, omega arith)))
+    (tells-row In 6 _ (λ q z. let w = when-some _ _ q z in (omega arith, omega arith)))
     (tells-row In 13 _ (λ q z. let w = not-zero-said _ _ q .0 z in let m = length-drop (4 + recordSize * byte p 1) p in (omega (arith, w .from), omega (arith, w .within))))
     (tells-row In 13 _ (λ q z. let w = not-zero-said _ p q .0 z in (w .from, omega (arith, w .within))))
 
@@ -124,14 +116,7 @@ unfolding undivided wrongPage pageParts
 place-within b a f =
     let h = headerOf b in
     first-both (badPlace h) (pageFault h) (page-same h) (λ p. length p ≤ pageSize (h .c)) (λ a f. Within a (pageSize (h .c)) (f .place))
-    (λ x p a f l e t. rw (← when-within (badPage h x p) (pagePlace h x) a e) (page-within h x p l f t)) 1 (pageParts h b) (parts-short _ _ _) a f
-
-place-of : (x : Option ℕ) (p : ℕ) → numbered 6 x ≡ some (record { number = 6; place = p }) → x ≡ some p
-unfolding numbered
-place-of none p e = absurd (Option·none-ne-some _ e)
-place-of (some q) p e =
-    let h : _≡_ {A = Fault} (record { number = 6; place = q }) (record { number = 6; place = p }) = cc in
-    ap (λ (f : Fault). some (f .place)) h
+    (λ x p a f l e t. rw (← when-some (badPage h x p) (pagePlace h x) a e) (page-within h x p l f t)) 1 (pageParts h b) (parts-short _ _ _) a f
 
 -- with p in the place of o, a fault that only o tells gives way to one that p tells
 instead : (x o p z : Option Fault) (f : Fault) → o ≡ none ↔ p ≡ none → (x ≡ some f → ⊥) → (z ≡ some f → ⊥) → orElse x (orElse o z) ≡ some f → (o ≡ some f) × (g : Fault) × (p ≡ some g) × (orElse x (orElse p z) ≡ some g)
@@ -149,4 +134,4 @@ pub page-told
 page-told b a e =
     let six : Fault = record { number = 6; place = a } in
     let w = instead (front b) (row 6 undivided b) (wrongPage b) (back b) six (pages-same b) (λ h. front-number b six h .other refl) (λ h. back-number b six h .other refl) (sym (one b) ∙ e) in
-    (w .1, three b ∙ w .3, pages-number b (w .1) (w .2), place-within b a (w .1) (place-of (undivided b) a (w .0)) (w .2))
+    (w .1, three b ∙ w .3, pages-number b (w .1) (w .2), place-within b a (w .1) (numbered-some 6 _ six (w .0) .1) (w .2))
