@@ -2,13 +2,8 @@
 use Prim.Native.Nat.{ℕ, _≤_}
 use mathlib.Core.List.{List}
 use lib.ListN.{length}
-use Rattle.spec.specs.declared.Rec.{Rec}
 use Rattle.spec.specs.Bytes.{byte}
 use Rattle.spec.specs.Job.{maxDepth, maxCapacity, pageSize}
-
--- what stands where there is no record
-abbrev pub noRecord : Rec
-noRecord = record { call = 0; charge = 0 }
 
 -- depth and count within their limits, and room for the records
 pub record Small (p : List ℕ) : Type 0 where

@@ -3,15 +3,15 @@ use header::Header;
 use spec::Spot;
 ghost use mathlib.Core.Path.{_≡_};
 ghost use Prim.Native.Nat.{_≤_, _<_};
-ghost use lib.ListN.{getD, take};
-ghost use Rattle.spec.specs.Basics.{isSome, firstOf};
+ghost use lib.ListN.{getD};
+ghost use Rattle.spec.specs.Basics.{firstOf};
 ghost use Rattle.spec.specs.Bytes.{byte};
-ghost use Rattle.spec.specs.File.{findIn};
+ghost use Rattle.spec.specs.File.{noRecord};
 ghost use Rattle.spec.specs.Decode.{pageOf};
-ghost use Rattle.spec.specs.Check.{badRecord, recordFault, wrongRecord};
+ghost use Rattle.spec.specs.Check.{notAbove, badRecord, recordFault, wrongRecord};
 ghost use Rattle.spec.specs.Cases.{spotOf};
 ghost use Rattle.job.specs.Owner.{Paged};
-ghost use Rattle.job.specs.Records.{noRecord, Small};
+ghost use Rattle.job.specs.Records.{Small};
 
 // The call of record i of a page, from 0.
 fn call_at(page: &[u8], i: usize) -> u32
@@ -21,22 +21,19 @@ fn call_at(page: &[u8], i: usize) -> u32
     wire::u32_at(page, 4 + 8 * i)
 }
 
-// One of the first n records has the call.
-fn is_among(page: &[u8], n: usize, call: u32) -> bool
-    requires { ⌜ Small (now page) × (n ≤ byte (now page) 1) ⌝ }
-    ensures { λ r. ⌜ r ≡ isSome (findIn (take n (pageOf (now (page .entry)) .records)) call) ⌝ }
+// "is not above the one before it": record i of a page
+fn not_above(page: &[u8], i: usize) -> bool
+    requires { ⌜ Small (now page) × (i < byte (now page) 1) ⌝ }
+    ensures { λ r. ⌜ r ≡ notAbove (pageOf (now (page .entry)) .records) i (getD (pageOf (now (page .entry)) .records) i noRecord) ⌝ }
 {
-    let mut i: usize = 0;
-    while i < n {
-        if call_at(page, i) == call {
-            return true;
-        }
-        i += 1;
+    if i == 0 {
+        return false;
     }
-    false
+    let call = call_at(page, i);
+    call <= call_at(page, i - 1)
 }
 
-// 8 record: "pseudo key does not begin with the pattern, or the call is earlier in the page". Record i of a page
+// 8 record: "pseudo key does not begin with the pattern", or "a page out of order". Record i of a page
 fn bad_record(page: &[u8], i: usize) -> bool
     requires { ⌜ Small (now page) × (i < byte (now page) 1) ⌝ }
     ensures { λ r. ⌜ r ≡ badRecord (pageOf (now (page .entry))) i (getD (pageOf (now (page .entry)) .records) i noRecord) ⌝ }
@@ -45,7 +42,7 @@ fn bad_record(page: &[u8], i: usize) -> bool
     if key::index(call, wire::u8_at(page, 0)) != wire::u16_at(page, 2) {
         return true;
     }
-    is_among(page, i, call)
+    not_above(page, i)
 }
 
 // The first such record of a page that begins at a place.

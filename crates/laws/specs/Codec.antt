@@ -15,6 +15,7 @@ pub mod Longest
 pub mod InUse
 pub mod Owner
 pub mod Records
+pub mod Repeats
 pub mod Pages
 pub mod Undivided
 pub mod Ops

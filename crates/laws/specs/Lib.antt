@@ -6,10 +6,12 @@ pub mod Key
 pub mod Turns
 -- the bytes: accepted jobs are proper, and are read and written back exactly
 pub mod Codec
--- the two together: the result and its charge file read back, demand 3 for every accepted job, room in the result buffer
+-- the two together: the result and its charge file read back, demand 3 for every accepted job, calls that rise in every page, room in the result
+-- buffer
 pub mod ReadBack
 pub mod Demand3
+pub mod InOrder
 pub mod Room
--- the claim weighed: each field as a test that computes, which some wrong machine fails; a failed test refutes the claim
+-- the claims weighed: each field as a test that computes, which some wrong machine fails; a failed test refutes the claim
 pub mod Weighed
 pub mod Refutes

@@ -1,7 +1,7 @@
--- A test that fails refutes the claim: where a field of `Explained` holds, the test of that name in Weighed is true.
+-- A test that fails refutes the claim: where a field of `Explained` or of `InOrder` holds, the test of that name in Weighed is true.
 -- Each is shown from the field's statement alone. No law on turns or bytes is used, and no definition of the machine is opened, so it holds
 -- whatever the machine is, and whatever the result: one on which one of the fourteen tests is false does not explain the job (`passes`).
-use Prim.Native.Nat.{ℕ, zero, suc, _<_}
+use Prim.Native.Nat.{ℕ, zero, suc, _<_, _≤_}
 use mathlib.Core.Path.{_≡_, refl, ap}
 use mathlib.Core.Logic.{_⊎_, inl, inr}
 use mathlib.Core.List.{List, [], _∷_}
@@ -17,19 +17,19 @@ use Rattle.spec.specs.declared.Kind.{Kind}
 use Rattle.spec.specs.declared.Kind.the-variants.{Search, Insert, Delete}
 use Rattle.spec.specs.declared.Stage.{Stage}
 use Rattle.spec.specs.declared.Stage.the-variants.{NotBegun, ReadPage, Reread, Lock, Held, Split, Done}
-use Rattle.spec.specs.Basics.{isSome, allOf, Has, here, there}
+use Rattle.spec.specs.Basics.{allOf, Has, here, there}
 use Rattle.spec.specs.Code.{noDepth, noPage}
-use Rattle.spec.specs.File.{Page, File}
+use Rattle.spec.specs.File.{Page, File, pageAt}
 use Rattle.spec.specs.Job.{Job, noOp}
 use Rattle.spec.specs.State.{State}
 use Rattle.spec.specs.Run.{stageOf, run}
 use Rattle.spec.specs.Result.{Line, Result}
 use Rattle.spec.specs.PlainList.{Reply}
-use Rattle.spec.specs.Proper.{NoneTwice, empty, more}
-use Rattle.spec.specs.Claims.{stateAt, FirstTurn, Ended, Waits, Before, IsFile, Explained}
-use Rattle.laws.specs.Tools.{and-left, and-right}
-use Rattle.laws.specs.Weighed.{every, some-of, sameRec, sameReply, same, samePage, sameFile, isFile, member, noneTwice, isDone, isSearch, waits, ended, first, precedes}
-use Rattle.laws.specs.Weighed.{count, answers, refused, once, noOther, sorted, held, charged, listOnce, fileOnce, order, searches, progressAt, progress, finished}
+use Rattle.spec.specs.Proper.{NoneTwice, empty, more, CallsRise, flat, rise}
+use Rattle.spec.specs.Claims.{stateAt, FirstTurn, Ended, Waits, Before, IsFile, Explained, InOrder}
+use Rattle.laws.specs.Tools.{isSome, and-left, and-right, each-imp, true-allOf}
+use Rattle.laws.specs.Weighed.{every, some-of, sameRec, sameFound, sameReply, same, samePage, sameFile, isFile, member, noneTwice, callsRise, ofPages, isDone, isSearch, waits, ended, first, precedes}
+use Rattle.laws.specs.Weighed.{count, answers, refused, once, noOther, sorted, held, charged, listOnce, fileOnce, order, searches, progressAt, progress, finished, rising, looks}
 
 -- tests joined: when they come out true
 is-not : {a : Bool} → (a ≡ true → ⊥) → not a ≡ true
@@ -87,6 +87,14 @@ sameRec-true : (a : Rec) → sameRec a a ≡ true
 unfolding sameRec
 sameRec-true a = is-and (eqb-same (a .call)) (eqb-same (a .charge))
 
+sameFound-true : {a b : Option Rec} → a ≡ b → sameFound a b ≡ true
+unfolding sameFound
+sameFound-true {a} e = rw (← e) (go a)
+  where
+    go : (o : Option Rec) → sameFound o o ≡ true
+    go none = refl
+    go (some r) = sameRec-true r
+
 sameReply-true : (a : Reply) → sameReply a a ≡ true
 unfolding sameReply
 sameReply-true a = is-and (eqb-same (a .code)) (eqb-same (a .charge))
@@ -96,15 +104,20 @@ unfolding member
 member-true {r} here = rw (sameRec-true r)
 member-true {r} (there {y} h) = is-or {a = sameRec y r} (λ e. member-true h)
 
-all-true : (f : Rec → Bool) (rs : List Rec) → ((r : Rec) → Has r rs → f r ≡ true) → allOf f rs ≡ true
+all-true : {A : Type 0} (f : A → Bool) (xs : List A) → ((x : A) → Has x xs → f x ≡ true) → allOf f xs ≡ true
 unfolding allOf
 all-true f [] h = refl
-all-true f (r ∷ rs) h = is-and (h r here) (all-true f rs (λ a k. h a (there k)))
+all-true f (x ∷ xs) h = is-and (h x here) (all-true f xs (λ a k. h a (there k)))
 
 noneTwice-true : {rs : List Rec} → NoneTwice rs → noneTwice rs ≡ true
 unfolding noneTwice isSome
 noneTwice-true empty = refl
 noneTwice-true (more e h) = is-and (ap (λ x. not (isSome x)) e) (noneTwice-true h)
+
+callsRise-true : {rs : List Rec} → CallsRise rs → callsRise rs ≡ true
+unfolding callsRise
+callsRise-true flat = refl
+callsRise-true (rise l h) = is-and (true-allOf _ _ (each-imp (λ a u. lt-ltb _ _ u) l)) (callsRise-true h)
 
 -- what a test says that comes out true
 says-done : (x : Stage) → isDone x ≡ true → x ≡ Done
@@ -298,3 +311,23 @@ module _ (j : Job) (r : Result) (e : Explained j r) where
     progress-true,
     finished-true,
   )
+
+-- The fields of the other claim.
+module _ (j : Job) (r : Result) (e : InOrder j) where
+  pages-true
+      : (test : List Rec → Bool)
+      → ((t x : ℕ) → t ≤ length (j .turns) → test (pageAt (stateAt j t .file) x .records) ≡ true)
+      → ofPages j test ≡ true
+  unfolding ofPages
+  pages-true test h = every-true _ _ (λ t l. every-true _ _ (λ x k. h t x (omega arith)))
+
+  rising-true : rising j r ≡ true
+  unfolding rising
+  rising-true = pages-true callsRise (λ t x l. callsRise-true (e .rising t x l))
+
+  looks-true : looks j r ≡ true
+  unfolding looks
+  looks-true = pages-true _ (λ t x l. all-true _ _ (λ o h. sameFound-true (e .looks t x (o .call) l)))
+
+  pub order-passes : (rising j r ≡ true) × (looks j r ≡ true)
+  order-passes = (rising-true, looks-true)

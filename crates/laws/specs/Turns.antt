@@ -2,6 +2,7 @@
 -- what is known of keys, records and pages, and of a split
 pub mod Prefix
 pub mod Records
+pub mod CallsRise
 pub mod Shared
 pub mod Owners
 pub mod Grow

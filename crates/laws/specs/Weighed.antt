@@ -1,5 +1,5 @@
--- The claim weighed: each field of `Explained` as a test that computes, and small jobs on which every test passes, with the result that is read
--- from the bytes that are written.
+-- The claims weighed: each field of `Explained` and of `InOrder` as a test that computes, and small jobs on which every test passes, with the
+-- result that is read from the bytes that are written.
 -- For each field there is a changed definition under which its test fails on one of these jobs (tests/edits), so no field is there for nothing.
 -- That a test is true where its field holds is proved in Refutes: a test that fails refutes the claim.
 use Prim.Native.Nat.{ℕ, zero, suc}
@@ -15,9 +15,9 @@ use Rattle.spec.specs.declared.Kind.{Kind}
 use Rattle.spec.specs.declared.Kind.the-variants.{Search, Insert, Delete}
 use Rattle.spec.specs.declared.Stage.{Stage}
 use Rattle.spec.specs.declared.Stage.the-variants.{NotBegun, ReadPage, Reread, Lock, Held, Split, Done}
-use Rattle.spec.specs.Basics.{isSome, allOf}
+use Rattle.spec.specs.Basics.{allOf}
 use Rattle.spec.specs.Code.{notYet, noDepth, noPage}
-use Rattle.spec.specs.File.{Page, File, zeroPage, findIn, contents}
+use Rattle.spec.specs.File.{Page, File, zeroPage, pageAt, findIn, lookIn, contents}
 use Rattle.spec.specs.Job.{Job, noOp}
 use Rattle.spec.specs.Decode.{jobOf}
 use Rattle.spec.specs.State.{State}
@@ -28,6 +28,7 @@ use Rattle.spec.specs.Check.{jobFault}
 use Rattle.spec.specs.Claims.{stateAt, times, lineAt, answerAt, opAt, fed}
 use Rattle.spec.specs.Worked.{jobB, jobInsert, jobG}
 use Rattle.spec.specs.Opened.{opened}
+use Rattle.laws.specs.Tools.{isSome}
 
 -- the test holds of 0, 1, .., n - 1; it holds of one of them
 unfoldable pub every : ℕ → (ℕ → Bool) → Bool
@@ -39,6 +40,12 @@ some-of n f = not (every n (λ i. not (f i)))
 
 unfoldable pub sameRec : Rec → Rec → Bool
 sameRec a b = eqb (a .call) (b .call) && eqb (a .charge) (b .charge)
+
+unfoldable pub sameFound : Option Rec → Option Rec → Bool
+sameFound none none = true
+sameFound none (some b) = false
+sameFound (some a) none = false
+sameFound (some a) (some b) = sameRec a b
 
 unfoldable pub sameReply : Reply → Reply → Bool
 sameReply a b = eqb (a .code) (b .code) && eqb (a .charge) (b .charge)
@@ -57,6 +64,10 @@ member r (a ∷ rest) = sameRec a r || member r rest
 unfoldable pub noneTwice : List Rec → Bool
 noneTwice [] = true
 noneTwice (r ∷ rs) = not (isSome (findIn rs (r .call))) && noneTwice rs
+
+unfoldable pub callsRise : List Rec → Bool
+callsRise [] = true
+callsRise (r ∷ rs) = allOf (λ a. ltb (r .call) (a .call)) rs && callsRise rs
 
 unfoldable pub samePage : Page → Page → Bool
 samePage p q = eqb (p .depth) (q .depth) && eqb (p .pattern) (q .pattern) && same sameRec (p .records) (q .records)
@@ -170,6 +181,18 @@ progress j r = every (suc (length (j .turns))) (λ t. progressAt (stateAt j t) (
 unfoldable pub finished : Job → Result → Bool
 finished j r = every (length (j .ops)) (λ i. not (isDone (stageOf (run j) i)) || not (eqb (codeOf r i) notYet))
 
+-- the fields of the other claim: at every time, of the records of every page
+unfoldable pub ofPages : Job → (List Rec → Bool) → Bool
+ofPages j test =
+    every (suc (length (j .turns))) (λ t. every (length (stateAt j t .file .table)) (λ x. test (pageAt (stateAt j t .file) x .records)))
+
+unfoldable pub rising : Job → Result → Bool
+rising j r = ofPages j callsRise
+
+-- for the operations' calls
+unfoldable pub looks : Job → Result → Bool
+looks j r = ofPages j (λ rs. allOf (λ (o : Op). sameFound (lookIn rs (o .call)) (findIn rs (o .call))) (j .ops))
+
 abbrev op : Kind → ℕ → ℕ → Op
 op k n c = record { kind = k; call = n; charge = c }
 
@@ -250,7 +273,7 @@ Passes test = map (λ (j : Job). test j (readResult (encodeResult (result j)))) 
 
 -- opens the tests, and what they ask, for a proof by computation
 unfoldable tested : Unit {0}
-unfolding stateAt times answerAt fed every sameRec sameReply same member noneTwice samePage sameFile isFile isDone isSearch waits ended first precedes progressAt
+unfolding isSome stateAt times answerAt fed every sameRec sameFound sameReply same member noneTwice callsRise ofPages samePage sameFile isFile isDone isSearch waits ended first precedes progressAt
 tested = tt
 
 count-passes : Passes count
@@ -308,3 +331,11 @@ progress-passes = refl
 finished-passes : Passes finished
 unfolding opened tested finished
 finished-passes = refl
+
+rising-passes : Passes rising
+unfolding opened tested rising
+rising-passes = refl
+
+looks-passes : Passes looks
+unfolding opened tested looks
+looks-passes = refl

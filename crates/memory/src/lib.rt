@@ -9,7 +9,7 @@ ghost use Prim.Native.Nat.{ℕ, suc, _+_, _-_, _≤_, _<_};
 ghost use lib.Dec.{eqb};
 ghost use lib.ListN.{length, getD, take, drop, replicate};
 ghost use Rattle.spec.specs.Bytes.{byte, word};
-ghost use Rattle.spec.specs.File.{zeroPage, findIn};
+ghost use Rattle.spec.specs.File.{zeroPage, lookIn};
 ghost use Rattle.spec.specs.Job.{pageSize};
 ghost use Rattle.spec.specs.Check.{workSize};
 ghost use Rattle.spec.specs.Cases.{foundOf};
@@ -121,7 +121,7 @@ pub fn page_count(work: &[u8], c: usize, x: u16) -> usize
 // What page x has of a call.
 pub fn find_in(work: &[u8], c: usize, x: u16, call: u32) -> Found
     requires { ⌜ Within (now work) c x × (length (pageIn c (now work) x .records) ≤ c) ⌝ }
-    ensures { λ r. ⌜ r ≡ foundOf (findIn (pageIn c (now (work .entry)) x .records) call) ⌝ }
+    ensures { λ r. ⌜ r ≡ foundOf (lookIn (pageIn c (now (work .entry)) x .records) call) ⌝ }
 {
     page::find(part(work, c, x), call)
 }
@@ -180,13 +180,13 @@ pub fn set_change_turn(work: &mut [u8], e: usize, d: usize, v: u16)
 // ---- writing pages: "A page's bytes are rewritten inside the lent page table, nothing beside them touched"
 
 // "insert appends"
-pub fn append_to(work: &mut [u8], c: usize, x: u16, r: Rec)
+pub fn add_to(work: &mut [u8], c: usize, x: u16, r: Rec)
     requires { ⌜ Within (now work) c x × (length (pageIn c (now work) x .records) < c) ⌝ }
     ensures { λ _. ⌜ now (work .exit) ≡ withPage c (now (work .entry)) x (added (pageIn c (now (work .entry)) x) r) ⌝ }
 {
     let a = place(c, x);
     let e = a + (4 + 8 * c);
-    page::append(&mut work[a..e], r);
+    page::add(&mut work[a..e], r);
 }
 
 // "Delete closes the gap"

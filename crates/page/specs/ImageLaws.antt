@@ -1,5 +1,5 @@
--- Bytes that begin a page: records written behind the head, a page's own records, and the page's image once it is closed.
-use mathlib.Core.Path.{_≡_, refl, sym, ap, _∙_}
+-- Bytes that begin a page: records written behind the head, and the page's image once it is closed.
+use mathlib.Core.Path.{_≡_, refl, sym, _∙_}
 use mathlib.Core.Logic.{inr}
 use mathlib.Core.List.{List, [], _∷_, _++_, append-assoc}
 use Prim.Native.Nat.{ℕ, zero, suc, _+_, _-_, _*_, _≤_, _<_}
@@ -8,17 +8,19 @@ use lib.ListN.{length, set, replicate, length-append, length-replicate}
 use Rattle.spec.specs.declared.Rec.{Rec}
 use Rattle.spec.specs.Basics.{each}
 use Rattle.spec.specs.Bytes.{byte, two, four, long}
+use Rattle.spec.specs.File.{putIn}
 use Rattle.spec.specs.Job.{pageSize}
 use Rattle.spec.specs.Encode.{recordBytes, pageBytes}
 use Rattle.spec.specs.Decode.{pageOf}
 use Rattle.spec.specs.Split.{added}
+use Rattle.laws.specs.Turns.CallsRise.{put-length}
 use Rattle.laws.specs.Codec.Parts.{each-snoc}
 use Rattle.laws.specs.Codec.Sections.{length-record, length-records}
 use Rattle.wire.specs.Over.{over}
 use Rattle.wire.specs.OverLaws.{over-none, over-over, over-swap, over-whole, length-over}
 use Rattle.wire.specs.Reads.{over-long, long-over-other}
 use Rattle.page.specs.Room.{room, Sound}
-use Rattle.page.specs.View.{recordAt, recordsFrom, record-read, records-none, records-cons, records-all}
+use Rattle.page.specs.View.{recordAt, recordsFrom, record-read, records-none, records-cons, records-all, records-length}
 use Rattle.page.specs.Image.{closed}
 
 -- a record by its two numbers
@@ -52,15 +54,12 @@ own s i b =
     rw (record-read s i, ← over-record s (pageSize i) (record { call = long s (4 + 8 * i); charge = long s (8 + 8 * i) }), over-long s (4 + 8 * i) b, e)
     (over-long s (8 + 8 * i) b)
 
-owns : (s : List ℕ) (i n : ℕ) → ((k : ℕ) → byte s k < 256) → over s (pageSize i) (each recordBytes (recordsFrom s i n)) ≡ s
+pub owns : (s : List ℕ) (i n : ℕ) → ((k : ℕ) → byte s k < 256) → over s (pageSize i) (each recordBytes (recordsFrom s i n)) ≡ s
 unfolding each
 owns s i zero b = rw (records-none s i) (over-none s (pageSize i))
 owns s i (suc n) b =
     let more = over-over (recordBytes (recordAt s i)) (each recordBytes (recordsFrom s (suc i) n)) s (pageSize i) (pageSize (suc i)) (omega (arith, length-record (recordAt s i))) in
     rw (records-cons s i n) (sym more ∙ rw (own s i b) (owns s (suc i) n b))
-
-over-records : (s : List ℕ) → ((k : ℕ) → byte s k < 256) → over s 4 (each recordBytes (pageOf s .records)) ≡ s
-over-records s b = rw (records-all s) (owns s 0 (byte s 1) b)
 
 -- ---- closed: the page's image
 
@@ -86,16 +85,17 @@ closed-image s rs d n pattern e f h =
     rw (gap, over-over x z s 4 (pageSize n) (omega (arith, length-records rs)), over-swap head (x ++ z) s 0 4 (omega arith), over-over head (x ++ z) s 0 4 refl, over-whole (head ++ (x ++ z)) s all, f)
     (sym (append-assoc head x z))
 
--- one record more behind a page's own
+-- one record more, in its place among a page's own
 pub added-image
     : (s : List ℕ) (r : Rec) (n : ℕ)
-    → ((k : ℕ) → byte s k < 256)
     → Sound s
-    → n ≡ length (pageOf s .records)
+    → n ≡ byte s 1
     → n < room (length s)
-    → closed (over s (pageSize n) (recordBytes r)) (pageOf s .depth) (n + 1) (pageOf s .pattern) ≡ pageBytes (room (length s)) (added (pageOf s) r)
+    → closed (over s 4 (each recordBytes (putIn (recordsFrom s 0 n) r))) (pageOf s .depth) (n + 1) (pageOf s .pattern)
+    ≡ pageBytes (room (length s)) (added (pageOf s) r)
 unfolding added
-added-image s r n b o e h =
-    let rs = pageOf s .records in
-    let more = ap (λ (t : List ℕ). over t (pageSize n) (recordBytes r)) (sym (over-records s b)) ∙ over-more s rs n r (sym e) in
-    rw more (closed-image s (rs ++ (r ∷ [])) (pageOf s .depth) (n + 1) (pageOf s .pattern) (o .size) (omega (arith, length-append rs (r ∷ []))) (omega arith))
+added-image s r n o e h =
+    rw (e, records-all s)
+    (closed-image s (putIn (recordsFrom s 0 (byte s 1)) r) (pageOf s .depth) (byte s 1 + 1) (pageOf s .pattern) (o .size)
+    (omega (arith, put-length (recordsFrom s 0 (byte s 1)) r, records-length s 0 (byte s 1)))
+    (omega arith))

@@ -6,17 +6,24 @@ use Prim.Native.Nat.{ℕ, _+_, _≤_, _<_}
 use native.Mathlib.Nat.{zero-add}
 use native.Mathlib.Numerals.{add-one}
 use native.Mathlib.Omega.{arith}
-use lib.ListN.{length, length-append}
+use lib.ListN.{length, take, drop, length-append}
+use lib.Seq.{drop-at, length-take-le}
 use Rattle.spec.specs.declared.Rec.{Rec}
-use Rattle.spec.specs.Basics.{each, filter}
+use Rattle.spec.specs.Basics.{each, filter, Each}
 use Rattle.spec.specs.Bytes.{byte}
+use Rattle.spec.specs.File.{putIn}
 use Rattle.spec.specs.Job.{pageSize}
 use Rattle.spec.specs.Encode.{recordBytes, pageBytes}
-use Rattle.spec.specs.Decode.{pageOf}
-use Rattle.laws.specs.Tools.{filter-le}
-use Rattle.laws.specs.Codec.Sections.{length-records}
+use Rattle.spec.specs.Decode.{recordOf, pageOf}
+use Rattle.laws.specs.Tools.{each-imp, filter-each, filter-le}
+use Rattle.laws.specs.Turns.CallsRise.{put-length}
+use Rattle.laws.specs.Codec.Tools.{every, each-places}
+use Rattle.laws.specs.Codec.Parts.{parts-each}
+use Rattle.laws.specs.Codec.Sections.{length-record, length-records}
+use Rattle.laws.specs.Codec.Back.{RecFits, record-back, map-back}
+use Rattle.laws.specs.Codec.Exact.{page-fits}
 use Rattle.wire.specs.Over.{over}
-use Rattle.wire.specs.OverLaws.{over-none, length-over}
+use Rattle.wire.specs.OverLaws.{over-none, over-again, over-parts, length-over}
 use Rattle.page.specs.View.{recordAt, recordsFrom, records-all, records-none, records-snoc, records-length}
 use Rattle.page.specs.Room.{room, Sound}
 use Rattle.page.specs.Image.{closed}
@@ -59,6 +66,20 @@ module _ {f : Rec → Bool} {s t : List ℕ} {m j : ℕ} (k : Kept f s t m j) wh
         bytes = rw (k .bytes, more) (over-more s x m (recordAt s j) (k .many));
       }
 
+-- ---- records written are read back
+
+records-fit : (s : List ℕ) → ((k : ℕ) → byte s k < 256) → Each RecFits (pageOf s .records)
+unfolding byte
+records-fit s b = page-fits s (each-places s 0 .1 (λ k l. b k))
+
+records-back : (s : List ℕ) (x : List Rec) (m : ℕ) → length x ≡ m → Each RecFits x → pageSize m ≤ length s → recordsFrom (over s 4 (each recordBytes x)) 0 m ≡ x
+unfolding recordsFrom
+records-back s x m e h l =
+    let y = each recordBytes x in
+    let cut = over-parts y s 4 (omega (arith, length-records x)) in
+    let tail = ap (drop 4) cut ∙ drop-at (take 4 s) (y ++ drop (4 + length y) s) 4 (length-take-le 4 s (omega arith)) in
+    rw (tail, ← e, parts-each recordBytes 8 x (drop (4 + length y) s) (every length-record x)) (map-back recordOf recordBytes (each-imp record-back h))
+
 -- ---- all records were seen: how many were kept; the page's image, once it is closed; and with one record more
 
 pub kept-all : {f : Rec → Bool} {s t : List ℕ} {m : ℕ} → Kept f s t m (byte s 1) → length (filter f (pageOf s .records)) ≡ m
@@ -72,10 +93,14 @@ module _ {f : Rec → Bool} {s t : List ℕ} {m : ℕ} (k : Kept f s t m (byte s
 
   pub kept-image-more
       : (r : Rec)
+      → ((k : ℕ) → byte s k < 256)
       → m < room (length s)
-      → closed (over t (pageSize m) (recordBytes r)) d (m + 1) pattern
-      ≡ pageBytes (room (length s)) (record { depth = d; pattern = pattern; records = filter f (pageOf s .records) ++ (r ∷ []) })
-  kept-image-more r h =
+      → closed (over t 4 (each recordBytes (putIn (recordsFrom t 0 m) r))) d (m + 1) pattern
+      ≡ pageBytes (room (length s)) (record { depth = d; pattern = pattern; records = putIn (filter f (pageOf s .records)) r })
+  kept-image-more r b h =
       let x = filter f (recordsFrom s 0 (byte s 1)) in
-      rw (k .bytes, over-more s x m r (k .many), records-all s)
-      (closed-image s (x ++ (r ∷ [])) d (m + 1) pattern (o .size) (omega (arith, length-append x (r ∷ []), k .many)) (omega arith))
+      let fits : Each RecFits x = filter-each f (recordsFrom s 0 (byte s 1)) (λ a w u. w) (rw (records-all s) at (records-fit s b)) in
+      let back : recordsFrom t 0 m ≡ x = rw (k .bytes) (records-back s x m (k .many) fits (omega (arith, o .size))) in
+      let more = put-length x r in
+      rw (back, k .bytes, over-again (each recordBytes x) (each recordBytes (putIn x r)) s 4 (omega (arith, length-records x, length-records (putIn x r), more)), records-all s)
+      (closed-image s (putIn x r) d (m + 1) pattern (o .size) (omega (arith, more, k .many)) (omega arith))

@@ -1,6 +1,6 @@
 -- The records that a page's bytes show, one by one.
-use mathlib.Core.Path.{_≡_, refl, ap}
-use mathlib.Core.List.{List, [], _∷_, _++_, map}
+use mathlib.Core.Path.{_≡_, refl, ap, _∙_}
+use mathlib.Core.List.{List, [], _∷_, _++_, map, append-assoc}
 use Prim.Native.Nat.{ℕ, zero, suc, _+_, _-_, _*_, _≤_, _<_}
 use native.Mathlib.Nat.{add-zero, sub-zero}
 use native.Mathlib.Numerals.{add-one}
@@ -67,3 +67,11 @@ pub left-none : (s : List ℕ) (i n : ℕ) → n ≤ i → recordsFrom s i (n - 
 left-none s i n h =
     let e : n - i ≡ 0 = omega arith in
     rw (e, records-none s i)
+
+-- the n are those passed, and what is left
+pub left-join : (s : List ℕ) (i n : ℕ) → i ≤ n → recordsFrom s 0 n ≡ recordsFrom s 0 i ++ recordsFrom s i (n - i)
+left-join s zero n h = rw (records-none s 0, sub-zero n)
+left-join s (suc i) n h =
+    let e : n - i ≡ suc (n - suc i) = omega arith in
+    let at : 0 + i ≡ i = omega arith in
+    left-join s i n (omega arith) ∙ rw (e, records-cons s i (n - suc i), records-snoc s 0 i, at, append-assoc)

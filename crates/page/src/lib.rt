@@ -4,10 +4,11 @@
 use spec::Found;
 use spec::Rec;
 ghost use mathlib.Core.Path.{_≡_};
-ghost use Prim.Native.Nat.{_+_, _≤_, _<_};
+ghost use Prim.Native.Nat.{_+_, _-_, _≤_, _<_};
 ghost use lib.ListN.{length};
 ghost use Rattle.spec.specs.Bytes.{byte};
-ghost use Rattle.spec.specs.File.{findIn};
+ghost use Rattle.spec.specs.Basics.{each};
+ghost use Rattle.spec.specs.File.{lookIn, putIn};
 ghost use Rattle.spec.specs.Job.{pageSize};
 ghost use Rattle.spec.specs.Encode.{recordBytes, pageBytes};
 ghost use Rattle.spec.specs.Decode.{pageOf};
@@ -16,8 +17,9 @@ ghost use Rattle.spec.specs.Split.{added};
 ghost use Rattle.spec.specs.Turn.{cleared};
 ghost use Rattle.wire.specs.Over.{over};
 ghost use Rattle.page.specs.Room.{room, Sound};
-ghost use Rattle.page.specs.View.{recordAt};
+ghost use Rattle.page.specs.View.{recordAt, recordsFrom};
 ghost use Rattle.page.specs.Image.{closed};
+ghost use Rattle.page.specs.Put.{placeIn};
 ghost use Rattle.page.specs.Keep.{passesOf, Fine, Kept};
 
 // ---- reading
@@ -56,14 +58,17 @@ pub fn rec_at(page: &[u8], i: usize) -> Rec
 
 pub fn find(page: &[u8], call: u32) -> Found
     requires { ⌜ pageSize (byte (now page) 1) ≤ length (now page) ⌝ }
-    ensures { λ r. ⌜ r ≡ foundOf (findIn (pageOf (now (page .entry)) .records) call) ⌝ }
+    ensures { λ r. ⌜ r ≡ foundOf (lookIn (pageOf (now (page .entry)) .records) call) ⌝ }
 {
     let n = count(page);
     let mut i: usize = 0;
     while i < n {
         let r = rec_at(page, i);
-        if r.call == call {
-            return Found::Charge(r.charge);
+        if call <= r.call {
+            if r.call == call {
+                return Found::Charge(r.charge);
+            }
+            return Found::Missing;
         }
         i += 1;
     }
@@ -94,15 +99,54 @@ pub fn close(page: &mut [u8], depth: usize, n: usize, pattern: usize)
     wire::put_u16(page, 2, pattern);
 }
 
-// "insert appends"
-pub fn append(page: &mut [u8], r: Rec)
+// How many of the first n records stand before the first with a higher number.
+fn place_of(page: &[u8], n: usize, call: u32) -> usize
+    requires { ⌜ pageSize n ≤ length (now page) ⌝ }
+    ensures { λ r. ⌜ (r ≡ placeIn (recordsFrom (now (page .entry)) 0 n) call) × (r ≤ n) ⌝ }
+{
+    let mut i: usize = 0;
+    while i < n {
+        let r = rec_at(page, i);
+        if call < r.call {
+            return i;
+        }
+        i += 1;
+    }
+    n
+}
+
+// The records from number i up to number n move up by one, the last of them first.
+fn move_up(page: &mut [u8], i: usize, n: usize)
+    requires { ⌜ (i ≤ n) × (pageSize (n + 1) ≤ length (now page)) ⌝ }
+    ensures { λ _. ⌜ now (page .exit) ≡ over (now (page .entry)) (pageSize (i + 1)) (each recordBytes (recordsFrom (now (page .entry)) i (n - i))) ⌝ }
+{
+    let mut j = n;
+    while i < j {
+        let r = rec_at(page, j - 1);
+        put_rec(page, j, r);
+        j -= 1;
+    }
+}
+
+// One record more among the first n of a page: the higher ones move up, and it goes before them.
+pub fn put_in(page: &mut [u8], n: usize, r: Rec)
+    requires { ⌜ pageSize (n + 1) ≤ length (now page) ⌝ }
+    ensures { λ _. ⌜ now (page .exit) ≡ over (now (page .entry)) 4 (each recordBytes (putIn (recordsFrom (now (page .entry)) 0 n) r)) ⌝ }
+{
+    let i = place_of(page, n, r.call);
+    move_up(page, i, n);
+    put_rec(page, i, r);
+}
+
+// An insert puts its record in its place.
+pub fn add(page: &mut [u8], r: Rec)
     requires { ⌜ Sound (now page) × (byte (now page) 1 < room (length (now page))) ⌝ }
     ensures { λ _. ⌜ now (page .exit) ≡ pageBytes (room (length (now (page .entry)))) (added (pageOf (now (page .entry))) r) ⌝ }
 {
     let d = depth(page);
     let p = pattern(page);
     let n = count(page);
-    put_rec(page, n, r);
+    put_in(page, n, r);
     close(page, d, n + 1, p);
 }
 

@@ -1,7 +1,7 @@
 -- The splits for an insert leave exactly the pieces.
 use mathlib.Core.Path.{_≡_, refl, sym, ap, _∙_}
 use mathlib.Core.Bool.{Bool, true, false, not, Bool·beq, false≢true}
-use mathlib.Core.List.{List, [], _∷_, append-nil, map}
+use mathlib.Core.List.{List, [], map}
 use Prim.Native.Nat.{ℕ, zero, suc, _+_, _-_, _*_, _≤_, _<_}
 use native.Mathlib.Nat.{add-zero}
 use native.Mathlib.Omega.{arith}
@@ -11,7 +11,7 @@ use borrow.Author.Tests.{eqb-true, eq-eqb, ne-eqb}
 use Rattle.spec.specs.declared.Rec.{Rec}
 use Rattle.spec.specs.Basics.{Each}
 use Rattle.spec.specs.Key.{index, bit}
-use Rattle.spec.specs.File.{Page, zeroPage, hasIndex, ofIndex}
+use Rattle.spec.specs.File.{Page, zeroPage, putIn, hasIndex, ofIndex}
 use Rattle.spec.specs.Split.{hasBit, withBit, digit, half, added, Grown, joined, grow, leastShared, splitCount}
 use Rattle.spec.specs.Proper.{In}
 use Rattle.laws.specs.Tools.{if-case, if-true, if-false, each-imp, filter-few}
@@ -52,7 +52,7 @@ half-cut
     → half v p ≡ cut p r (sidePiece v (p .depth) (r .call))
 unfolding half cut sidePiece
 half-cut v p r h i s =
-    rw (i, half-records v (p .depth) (p .pattern) (p .records) h s, if-false (r ∷ []) [] refl, append-nil)
+    rw (i, half-records v (p .depth) (p .pattern) (p .records) h s, if-false (putIn _ r) _ refl)
 
 -- the half that it is in, with the call
 added-cut
@@ -63,7 +63,7 @@ added-cut
     → added (half (bit (p .depth) (r .call)) p) r ≡ cut p r (ownPiece (suc (p .depth)) (r .call))
 unfolding half added cut ownPiece
 added-cut p r h i s =
-    rw (to-half (p .depth) (r .call) (p .pattern) h i, half-records (bit (p .depth) (r .call)) (p .depth) (p .pattern) (p .records) h s, if-true (r ∷ []) [] refl)
+    rw (to-half (p .depth) (r .call) (p .pattern) h i, half-records (bit (p .depth) (r .call)) (p .depth) (p .pattern) (p .records) h s, if-true (putIn _ r) _ refl)
 
 -- ---- one split
 

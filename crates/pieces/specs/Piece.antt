@@ -2,11 +2,11 @@
 -- the half that it is in is split again, until the call's own page has room.
 use Prim.Native.Nat.{ℕ, zero, suc, _+_, _*_}
 use mathlib.Core.Bool.{Bool, true, false}
-use mathlib.Core.List.{List, [], _∷_, _++_}
+use mathlib.Core.List.{List, [], _∷_}
 use Rattle.spec.specs.declared.Rec.{Rec}
 use Rattle.spec.specs.Basics.{if}
 use Rattle.spec.specs.Key.{index, bit}
-use Rattle.spec.specs.File.{Page, ofIndex}
+use Rattle.spec.specs.File.{Page, putIn, ofIndex}
 use Rattle.spec.specs.Split.{digit}
 use Rattle.pieces.specs.declared.Piece.{Piece}
 
@@ -38,5 +38,5 @@ cut p r q =
     record {
       depth = q .depth;
       pattern = q .pattern;
-      records = ofIndex (q .depth) (q .pattern) (p .records) ++ if (q .own) (r ∷ []) [];
+      records = let rs = ofIndex (q .depth) (q .pattern) (p .records) in if (q .own) (putIn rs r) rs;
     }

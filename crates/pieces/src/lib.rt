@@ -109,7 +109,7 @@ fn write_piece(page: &mut [u8], q: Piece, r: Rec)
     let p = q.pattern;
     let m = page::keep(page, Test::HasIndex(d, p));
     if q.own {
-        page::put_rec(page, m, r);
+        page::put_in(page, m, r);
         page::close(page, d, m + 1, p);
     } else {
         page::close(page, d, m, p);

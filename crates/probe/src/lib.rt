@@ -5,7 +5,7 @@ ghost use mathlib.Core.Path.{_≡_};
 ghost use Prim.Native.Nat.{ℕ, suc, _-_, _≤_, _<_};
 ghost use lib.ListN.{length, getD};
 ghost use Rattle.spec.specs.Bytes.{byte};
-ghost use Rattle.spec.specs.File.{zeroPage, findIn};
+ghost use Rattle.spec.specs.File.{zeroPage, lookIn};
 ghost use Rattle.spec.specs.Job.{pageSize};
 ghost use Rattle.spec.specs.Decode.{pageOf};
 ghost use Rattle.spec.specs.Encode.{pageBytes};
@@ -20,7 +20,7 @@ ghost use Rattle.probe.specs.Numbers.{foundNumber, recFor};
 #[no_mangle]
 pub extern "C" fn probe_find(page: &[u8], call: u32) -> u64
     requires { ⌜ pageSize (byte (now page) 1) ≤ length (now page) ⌝ }
-    ensures { λ r. ⌜ r ≡ foundNumber (foundOf (findIn (pageOf (now (page .entry)) .records) call)) ⌝ }
+    ensures { λ r. ⌜ r ≡ foundNumber (foundOf (lookIn (pageOf (now (page .entry)) .records) call)) ⌝ }
 {
     let f = page::find(page, call);
     match f {
@@ -30,11 +30,11 @@ pub extern "C" fn probe_find(page: &[u8], call: u32) -> u64
 }
 
 #[no_mangle]
-pub extern "C" fn probe_append(page: &mut [u8], call: u32, charge: u32)
+pub extern "C" fn probe_add(page: &mut [u8], call: u32, charge: u32)
     requires { ⌜ Sound (now page) × (byte (now page) 1 < room (length (now page))) ⌝ }
     ensures { λ _. ⌜ now (page .exit) ≡ pageBytes (room (length (now (page .entry)))) (added (pageOf (now (page .entry))) (recFor call charge)) ⌝ }
 {
-    page::append(
+    page::add(
         page,
         Rec {
             call: call,

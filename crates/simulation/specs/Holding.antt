@@ -6,7 +6,7 @@ use mathlib.Core.Option.{Option, none, some}
 use Prim.Native.Nat.{ℕ, suc, _+_}
 use native.Mathlib.Numerals.{add-one}
 use native.Mathlib.Omega.{arith}
-use lib.ListN.{length, getD, length-append}
+use lib.ListN.{length, getD}
 use lib.Dec.{ltb}
 use borrow.Author.Tests.{ltb-false}
 use Rattle.spec.specs.declared.Rec.{Rec}
@@ -27,6 +27,7 @@ use Rattle.spec.specs.Turn.{homeOf, recOf, planOf, newCount, cleared, placed, d
 use Rattle.spec.specs.Run.{rowOf}
 use Rattle.spec.specs.Proper.{PageNo, In}
 use Rattle.laws.specs.Tools.{if-both, filter-le}
+use Rattle.laws.specs.Turns.CallsRise.{put-length, look-find}
 use Rattle.laws.specs.Turns.Prefix.{fit-32}
 use Rattle.laws.specs.Turns.Shared.{allShare-least}
 use Rattle.laws.specs.Turns.Count.{split-count}
@@ -126,10 +127,11 @@ module _ (ops : List Op) (s : State) (i : ℕ) (w : List ℕ) (st : Steady ops s
   on-write x Search e n t = goes-on ops s i w st h _
   on-write x Insert e n t =
       paged ops s i w (st .good) (h .picture) _ _ x _ (omega (arith, st .good .fit .within))
-      (rw length-append (omega (arith, t .1 e .1)))
+      (omega (arith, t .1 e .1, put-length (pageAt (s .file) x .records) (recOf op)))
   on-write x Delete e n t =
-      paged ops s i w (st .good) (h .picture) _ _ x _ (omega (arith, st .good .fit .within))
-      (let l = filter-le (isNot (op .call)) (pageAt (s .file) x .records) in omega (arith, st .tidy .pages x .room))
+      rw (look-find (pageAt (s .file) x .records) (op .call) (st .tidy .pages x .rising))
+      (paged ops s i w (st .good) (h .picture) _ _ x _ (omega (arith, st .good .fit .within))
+      (let l = filter-le (isNot (op .call)) (pageAt (s .file) x .records) in omega (arith, st .tidy .pages x .room)))
 
   -- an operation that holds page x; the writing of a split's old page is given
   pub on-held
@@ -141,7 +143,7 @@ module _ (ops : List Op) (s : State) (i : ℕ) (w : List ℕ) (st : Steady ops s
   unfolding turn memTurn heldTurn memHeld
   on-held x Verify old n k = on-verify x
   on-held x (Release y) old n k = unlocks x (Lock y) n
-  on-held x Decide old n k = rw (page-used ops s w st h x n) (on-decide x _ _ n k)
+  on-held x Decide old n k = rw (page-used ops s w st h x n, look-find (pageAt (s .file) x .records) (op .call) (st .tidy .pages x .rising)) (on-decide x _ _ n k)
   on-held x WritePage old n k = rw (page-used ops s w st h x n) (on-write x _ refl n k)
   on-held x WriteOld old n k = old refl
   on-held x Unlock old n k = unlocks x Done n

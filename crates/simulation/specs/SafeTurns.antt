@@ -13,13 +13,14 @@ use Rattle.spec.specs.declared.Part.{Part}
 use Rattle.spec.specs.declared.Part.the-variants.{WriteNew, WriteEntry, UnlockNew}
 use Rattle.spec.specs.declared.Stage.{Stage}
 use Rattle.spec.specs.declared.Stage.the-variants.{NotBegun, ReadPage, Reread, Lock, Held, Split, Done}
-use Rattle.spec.specs.File.{File}
+use Rattle.spec.specs.File.{File, pageAt}
 use Rattle.spec.specs.Job.{Job, noOp}
 use Rattle.spec.specs.State.{State}
 use Rattle.spec.specs.Run.{rowOf, stageOf}
 use Rattle.spec.specs.Proper.{PageNo}
 use Rattle.spec.specs.Claims.{stateAt}
 use Rattle.laws.specs.Codec.Proper.{JobProper}
+use Rattle.laws.specs.Turns.CallsRise.{look-find}
 use Rattle.laws.specs.Turns.Good.{Fine}
 use Rattle.laws.specs.Turns.Work.{Plan, WorkTask, Work}
 use Rattle.laws.specs.Turns.Slots.{found-slot}
@@ -57,7 +58,7 @@ module _ (ops : List Op) (s : State) (i : ℕ) (w : List ℕ) (st : Steady ops s
       record {
         page = readable x n;
         stale = λ c.
-            rw (page-used ops s w st h x n, named-is ops s w st h op)
+            rw (page-used ops s w st h x n, named-is ops s w st h op, look-find (pageAt f x .records) (op .call) (st .tidy .pages x .rising))
             (λ q z.
             omega
             (arith, found-slot ops s i x c (turnIn w) (st .good) (st .tidy) (st .rising) (st .followed) (h .turns) e q z .1, st .good .fit .depth));

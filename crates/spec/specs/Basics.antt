@@ -23,10 +23,6 @@ unfoldable pub orElse : {A : Type 0} → Option A → Option A → Option A
 orElse none y = y
 orElse (some x) y = some x
 
-unfoldable pub isSome : {A : Type 0} → Option A → Bool
-isSome none = false
-isSome (some x) = true
-
 -- the first that is there. (`let`, here and below: what comes later is not computed where an earlier one decides)
 unfoldable pub among : List (Option ℕ) → Option ℕ
 among [] = none

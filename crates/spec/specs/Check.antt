@@ -1,16 +1,16 @@
 -- "Refused jobs": for each number of the table, the lowest place at which its row holds, and the first fault of a job. 12 and 13, and what 6 says,
--- are document 02's, point 1.
-use Prim.Native.Nat.{ℕ, _+_, _*_, _^_}
+-- are document 02's, point 1; that 8 asks for rising calls is its point 10.
+use Prim.Native.Nat.{ℕ, _+_, _-_, _*_, _^_}
 use mathlib.Core.List.{List, [], _∷_}
 use mathlib.Core.Bool.{Bool, not, _&&_, _||_}
 use mathlib.Core.Option.{Option, none, some}
-use lib.ListN.{length, take, drop}
+use lib.ListN.{length, getD, drop}
 use lib.Dec.{ltb, leb, eqb}
 use Rattle.spec.specs.declared.Rec.{Rec}
-use Rattle.spec.specs.Basics.{if, when, orElse, isSome, among, firstOf, anyOf}
+use Rattle.spec.specs.Basics.{if, when, orElse, among, firstOf, anyOf}
 use Rattle.spec.specs.Bytes.{byte, word, long}
 use Rattle.spec.specs.Key.{index, begins}
-use Rattle.spec.specs.File.{Page, File, pageAt, pagesInUse, findIn}
+use Rattle.spec.specs.File.{Page, File, noRecord, pageAt, pagesInUse}
 use Rattle.spec.specs.Job.{minDepth, maxDepth, minCapacity, maxCapacity, minPages, maxPages, minOps, maxOps, minTurns, maxTurns, Header, headerSize, jobVersion, versionAt, gAt, cAt, limitAt, usedAt, opCountAt, turnCountAt, directoryOffsetAt, tableOffsetAt, opsOffsetAt, turnsOffsetAt, totalAt, recordSize, directoryOffset, tableOffset, opsOffset, turnsOffset, total, entryPlace, pagePlace, recordPlace, opPlace, turnPlace, fileLength}
 use Rattle.spec.specs.Decode.{headerOf, fileOf, pageParts, opParts, turnParts, numberOf}
 
@@ -129,9 +129,13 @@ ownerFault f j x = when (badOwner f j x) (entryPlace j)
 unfoldable pub wrongOwner : List ℕ → Option ℕ
 wrongOwner b = let f = fileOf b in firstOf (ownerFault f) 0 (f .directory)
 
--- 8 record: "pseudo key does not begin with the pattern, or the call is earlier in the page". Record number i of the page is r
+-- record number i of some, which is r, "is not above the one before it"
+unfoldable pub notAbove : List Rec → ℕ → Rec → Bool
+notAbove rs i r = ltb 0 i && leb (r .call) (getD rs (i - 1) noRecord .call)
+
+-- 8 record: "pseudo key does not begin with the pattern", or "a page out of order". Record number i of the page is r
 unfoldable pub badRecord : Page → ℕ → Rec → Bool
-badRecord p i r = not (eqb (index (p .depth) (r .call)) (p .pattern)) || isSome (findIn (take i (p .records)) (r .call))
+badRecord p i r = not (eqb (index (p .depth) (r .call)) (p .pattern)) || notAbove (p .records) i r
 
 unfoldable pub recordFault : ℕ → Page → ℕ → Rec → Option ℕ
 recordFault place p i r = when (badRecord p i r) (recordPlace place i)

@@ -15,7 +15,7 @@ use Rattle.spec.specs.declared.Stage.the-variants.{Done}
 use Rattle.spec.specs.Basics.{if, Has}
 use Rattle.spec.specs.Bytes.{AreBytes}
 use Rattle.spec.specs.Code.{notYet, noDepth, noPage}
-use Rattle.spec.specs.File.{File, findIn, contents}
+use Rattle.spec.specs.File.{File, pageAt, findIn, lookIn, contents}
 use Rattle.spec.specs.Job.{Job, fileJob, noOp}
 use Rattle.spec.specs.Decode.{jobOf}
 use Rattle.spec.specs.State.{State}
@@ -24,7 +24,7 @@ use Rattle.spec.specs.Result.{Told, Line, Result, readResult}
 use Rattle.spec.specs.PlainList.{replyOf, nothingTold, Replay, replay}
 use Rattle.spec.specs.Check.{jobFault}
 use Rattle.spec.specs.Outcome.{resultBytes}
-use Rattle.spec.specs.Proper.{NoneTwice}
+use Rattle.spec.specs.Proper.{NoneTwice, CallsRise}
 
 -- the state after the first t turns, that is before turn t (turns count from 0)
 unfoldable pub stateAt : Job → ℕ → State
@@ -130,3 +130,17 @@ pub record Explained (j : Job) (r : Result) : Type 0 where
 -- whatever stands behind them
 abbrev pub Demand3 : Type 0
 Demand3 = (b post : List ℕ) → AreBytes b → Accepted b → Explained (jobOf b) (readResult (resultBytes b ++ post))
+
+-- Calls rise in the pages of the job j: at every time, in every page x of the table, also one that no entry names.
+pub record InOrder (j : Job) : Type 0 where
+  -- "records in every page stand by rising call number"
+  pub rising : (t x : ℕ) → t ≤ length (j .turns) → CallsRise (pageAt (stateAt j t .file) x .records)
+  -- "Looking for a call in a page may then stop at the first higher number, and finds what it found before"
+  pub looks
+      : (t x k : ℕ)
+      → t ≤ length (j .turns)
+      → lookIn (pageAt (stateAt j t .file) x .records) k ≡ findIn (pageAt (stateAt j t .file) x .records) k
+
+-- CALLS RISE IN EVERY PAGE: so it is in every accepted job, given as its bytes, whatever its turns and wherever they stop
+abbrev pub PagesInOrder : Type 0
+PagesInOrder = (b : List ℕ) → Accepted b → InOrder (jobOf b)

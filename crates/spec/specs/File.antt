@@ -4,12 +4,12 @@ use mathlib.Core.List.{List, [], _∷_, _++_}
 use mathlib.Core.Bool.{Bool, not}
 use mathlib.Core.Option.{Option, none, some}
 use lib.ListN.{getD, take, drop}
-use lib.Dec.{eqb}
+use lib.Dec.{ltb, eqb}
 use Rattle.spec.specs.declared.Rec.{Rec}
 use Rattle.spec.specs.Basics.{if, filter}
 use Rattle.spec.specs.Key.{index}
 
--- "A page has a local depth l of at most g and a pattern of l bits. At most c records lie in it, in order of arrival"
+-- "A page has a local depth l of at most g and a pattern of l bits. At most c records lie in it"; "by rising call number"
 pub record Page : Type 0 where
   pub depth : ℕ
   pub pattern : ℕ
@@ -29,6 +29,10 @@ pub record File : Type 0 where
 abbrev pub zeroPage : Page
 zeroPage = record { depth = 0; pattern = 0; records = [] }
 
+-- what is read where there is no record
+abbrev pub noRecord : Rec
+noRecord = record { call = 0; charge = 0 }
+
 -- page x, and the page number that entry j names
 unfoldable pub pageAt : File → ℕ → Page
 pageAt f x = getD (f .table) x zeroPage
@@ -44,6 +48,16 @@ pagesInUse f = take (f .used) (drop 1 (f .table))
 unfoldable pub findIn : List Rec → ℕ → Option Rec
 findIn [] k = none
 findIn (r ∷ rs) k = if (eqb (r .call) k) (some r) (findIn rs k)
+
+-- the same for records that stand by rising call number: "may then stop at the first higher number, and finds what it found before"
+unfoldable pub lookIn : List Rec → ℕ → Option Rec
+lookIn [] k = none
+lookIn (r ∷ rs) k = if (ltb k (r .call)) none (if (eqb (r .call) k) (some r) (lookIn rs k))
+
+-- the records with one more, which goes before the first with a higher number
+unfoldable pub putIn : List Rec → Rec → List Rec
+putIn [] r = r ∷ []
+putIn (a ∷ rs) r = if (ltb (r .call) (a .call)) (r ∷ a ∷ rs) (a ∷ putIn rs r)
 
 -- the records without those of a call
 unfoldable pub isNot : ℕ → Rec → Bool

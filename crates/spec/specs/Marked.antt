@@ -16,7 +16,7 @@ use Rattle.spec.specs.Check.{Lent}
 use Rattle.spec.specs.Outcome.{resultBytes, outcome, bufferAfter}
 use Rattle.spec.specs.Report.{printed}
 use Rattle.spec.specs.Claims.{fed}
-use Rattle.spec.specs.Worked.{jobB, resultB, textB, jobLong, jobC, resultC, jobInsert, resultD, jobG, resultG, jobH, resultH, jobI, resultI, jobJ, resultJ}
+use Rattle.spec.specs.Worked.{jobB, resultB, textB, jobLong, jobC, resultC, jobInsert, resultD, jobG, resultG, jobH, resultH, jobI, resultI, jobJ, resultJ, jobRising, resultRising, jobPut, resultPut}
 use Rattle.spec.specs.Opened.{opened}
 
 -- what is lent: a result buffer of 1,000 bytes that are all 7, 4 rows, and the least working memory
@@ -97,6 +97,19 @@ marked =
 table : map (λ (m : Item). says (m .asked)) marked ≡ map (λ (m : Item). m .paper) marked
 unfolding opened fed
 table = refl
+
+-- "records in every page stand by rising call number": after a split, and after an insert at the front, in the middle and at the end
+abbrev rising : List Item
+rising =
+    (job jobRising ⇒ ran resultRising)
+    ∷ (job (jobPut 0) ⇒ ran (resultPut (0 ∷ 30 ∷ 1 ∷ 10 ∷ 5 ∷ 20 ∷ [])))
+    ∷ (job (jobPut 3) ⇒ ran (resultPut (1 ∷ 10 ∷ 3 ∷ 30 ∷ 5 ∷ 20 ∷ [])))
+    ∷ (job (jobPut 9) ⇒ ran (resultPut (1 ∷ 10 ∷ 5 ∷ 20 ∷ 9 ∷ 30 ∷ [])))
+    ∷ []
+
+in-order : map (λ (m : Item). says (m .asked)) rising ≡ map (λ (m : Item). m .paper) rising
+unfolding opened
+in-order = refl
 
 -- a list of some thousand turns computes too
 long-list : says (job jobLong) ≡ ran resultB

@@ -16,6 +16,11 @@ pub data NoneTwice : List Rec → Type 0 where
   empty : NoneTwice []
   more : {r : Rec} {rs : List Rec} → findIn rs (r .call) ≡ none → NoneTwice rs → NoneTwice (r ∷ rs)
 
+-- calls rise in a list: each is below those of the records behind it
+pub data CallsRise : List Rec → Type 0 where
+  flat : CallsRise []
+  rise : {r : Rec} {rs : List Rec} → Each (λ a. r .call < a .call) rs → CallsRise rs → CallsRise (r ∷ rs)
+
 -- the call's pseudo key begins with the page's pattern
 abbrev pub In : Page → ℕ → Type 0
 In q k = index (q .depth) k ≡ q .pattern
@@ -41,7 +46,7 @@ pub record PageOk (g c : ℕ) (q : Page) : Type 0 where
   pub small : q .pattern < 2 ^ q .depth
   pub room : length (q .records) ≤ c
   pub homed : Each (λ a. In q (a .call)) (q .records)
-  pub once : NoneTwice (q .records)
+  pub rising : CallsRise (q .records)
 
 pub record FileOk (f : File) : Type 0 where
   pub fit : Fit f

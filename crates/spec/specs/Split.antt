@@ -1,13 +1,13 @@
 -- "Insert into a full page": the pages that it leaves, how many of them are new, and which entries change.
 use Prim.Native.Nat.{ℕ, zero, suc, _+_, _-_, _*_, min}
-use mathlib.Core.List.{List, [], _∷_, _++_}
+use mathlib.Core.List.{List, [], _∷_}
 use mathlib.Core.Bool.{Bool, true, false, not, _&&_, Bool·beq}
 use lib.ListN.{length}
 use lib.Dec.{ltb, eqb}
 use Rattle.spec.specs.declared.Rec.{Rec}
 use Rattle.spec.specs.Basics.{if, filter, allOf}
 use Rattle.spec.specs.Key.{pseudoKey, index, bit, shared, begins}
-use Rattle.spec.specs.File.{Page, File, entryAt}
+use Rattle.spec.specs.File.{Page, File, entryAt, putIn}
 
 -- the records whose pseudo-key bit number d is v. "both keep their order"
 unfoldable pub hasBit : Bool → ℕ → Rec → Bool
@@ -25,9 +25,9 @@ unfoldable pub half : Bool → Page → Page
 half v p =
     record { depth = suc (p .depth); pattern = 2 * p .pattern + digit v; records = withBit v (p .depth) (p .records) }
 
--- "insert appends"
+-- an insert puts its record in its place: "Insert, split and delete all keep this"
 unfoldable pub added : Page → Rec → Page
-added p r = record { depth = p .depth; pattern = p .pattern; records = p .records ++ (r ∷ []) }
+added p r = record { depth = p .depth; pattern = p .pattern; records = putIn (p .records) r }
 
 -- A page after an insert: what the page itself becomes, and the new pages in the order of the splits.
 pub record Grown : Type 0 where

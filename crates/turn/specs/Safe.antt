@@ -15,7 +15,7 @@ use Rattle.spec.specs.declared.Part.the-variants.{WriteNew, WriteEntry, UnlockN
 use Rattle.spec.specs.declared.Stage.{Stage}
 use Rattle.spec.specs.declared.Stage.the-variants.{NotBegun, ReadPage, Reread, Lock, Held, Split, Done}
 use Rattle.spec.specs.Check.{workSize}
-use Rattle.spec.specs.File.{findIn}
+use Rattle.spec.specs.File.{lookIn}
 use Rattle.spec.specs.Split.{leastShared, splitCount}
 use Rattle.spec.specs.Turn.{recOf}
 use Rattle.pieces.specs.Splits.{Splits}
@@ -44,7 +44,7 @@ Kept sh op w x = (named sh op w ≡ x → ⊥) → pageIn (sh .capacity) w x .de
 -- a search reads page x: it may find its call there though its entry no longer names that page
 pub record Reading (sh : Shape) (op : Op) (w : List ℕ) (x : ℕ) : Type 0 where
   pub page : Readable sh w x
-  pub stale : (c : Rec) → findIn (pageIn (sh .capacity) w x .records) (op .call) ≡ some c → Kept sh op w x
+  pub stale : (c : Rec) → lookIn (pageIn (sh .capacity) w x .records) (op .call) ≡ some c → Kept sh op w x
 
 -- page x is full, and splits make room in it for the insert, within the global depth
 pub record Planned (sh : Shape) (op : Op) (w : List ℕ) (x : ℕ) : Type 0 where

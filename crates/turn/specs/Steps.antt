@@ -18,7 +18,7 @@ use Rattle.spec.specs.declared.Stage.the-variants.{NotBegun, ReadPage, Reread, 
 use Rattle.spec.specs.Basics.{if}
 use Rattle.spec.specs.Code.{found, notFound, stored, alreadyThere, deleted, absent, noDepth, noPage}
 use Rattle.spec.specs.Key.{index}
-use Rattle.spec.specs.File.{Page, zeroPage, findIn}
+use Rattle.spec.specs.File.{Page, zeroPage, lookIn}
 use Rattle.spec.specs.Split.{Grown, added, grow, leastShared, splitCount}
 use Rattle.spec.specs.Turn.{recOf, begin, chargeIn, cleared}
 unfoldable pub use Rattle.laws.specs.Turns.GoesBy.{entryBit, lastOne}
@@ -97,7 +97,7 @@ memWritten sh op t r w x Search p = out (moved r (Held x Unlock)) w
 memWritten sh op t r w x Insert p =
     out (answered (moved r (Held x Unlock)) stored (op .charge) t) (withPage (sh .capacity) w x (added p (recOf op)))
 memWritten sh op t r w x Delete p =
-    out (answered (moved r (Held x Unlock)) deleted (chargeIn (findIn (p .records) (op .call))) t)
+    out (answered (moved r (Held x Unlock)) deleted (chargeIn (lookIn (p .records) (op .call))) t)
     (withPage (sh .capacity) w x (cleared p (op .call)))
 
 -- Which new page of the splits of page x an entry e goes to, counted from 1, or 0: the last of n splits that puts it on the side of bit 1
@@ -119,7 +119,7 @@ memOld sh op t r w x =
 unfoldable pub memHeld : Shape → Op → ℕ → Row → List ℕ → ℕ → Task → Out
 memHeld sh op t r w x Verify = memVerified sh op r w x
 memHeld sh op t r w x (Release y) = out (moved r (Lock y)) (withLocks w x 1 0)
-memHeld sh op t r w x Decide = memDecided sh op t r w x (op .kind) (findIn (pageIn (sh .capacity) w x .records) (op .call))
+memHeld sh op t r w x Decide = memDecided sh op t r w x (op .kind) (lookIn (pageIn (sh .capacity) w x .records) (op .call))
 memHeld sh op t r w x WritePage = memWritten sh op t r w x (op .kind) (pageIn (sh .capacity) w x)
 memHeld sh op t r w x WriteOld = memOld sh op t r w x
 memHeld sh op t r w x Unlock = out (moved r Done) (withLocks w x 1 0)
@@ -152,7 +152,7 @@ memSplit sh op t r w x b n UnlockNew = out (moved r (Held x WriteOld)) (withLock
 -- one turn of operation op at a stage, on turn t
 unfoldable pub memTurn : Shape → Op → ℕ → Row → List ℕ → Stage → Out
 memTurn sh op t r w NotBegun = out (moved r (begin (op .kind) (named sh op w))) w
-memTurn sh op t r w (ReadPage x) = memLooked sh op t r w x (findIn (pageIn (sh .capacity) w x .records) (op .call))
+memTurn sh op t r w (ReadPage x) = memLooked sh op t r w x (lookIn (pageIn (sh .capacity) w x .records) (op .call))
 memTurn sh op t r w (Reread x u) = memReread sh op r w x u
 memTurn sh op t r w (Lock x) = memLock r w x
 memTurn sh op t r w (Held x k) = memHeld sh op t r w x k

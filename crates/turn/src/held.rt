@@ -18,7 +18,7 @@ ghost use lib.ListN.{length};
 ghost use Rattle.spec.specs.declared.Stage.the-variants.{Held};
 ghost use Rattle.spec.specs.declared.Task.the-variants.{Unlock};
 ghost use Rattle.spec.specs.Check.{workSize};
-ghost use Rattle.spec.specs.File.{findIn};
+ghost use Rattle.spec.specs.File.{lookIn};
 ghost use Rattle.spec.specs.Split.{splitCount};
 ghost use Rattle.spec.specs.Turn.{recOf, chargeIn};
 ghost use Rattle.memory.specs.Memory.{withLocks, withUsed, pageIn};
@@ -39,7 +39,7 @@ pub fn rec_of(op: Op) -> Rec
 // The charge that page x has of the call.
 fn charge_in(shape: Shape, op: Op, x: u16, work: &[u8]) -> u32
     requires { ⌜ Ready shape (now work) × Readable shape (now work) x ⌝ }
-    ensures { λ r. ⌜ r ≡ chargeIn (findIn (pageIn (shape .capacity) (now (work .entry)) x .records) (op .call)) ⌝ }
+    ensures { λ r. ⌜ r ≡ chargeIn (lookIn (pageIn (shape .capacity) (now (work .entry)) x .records) (op .call)) ⌝ }
 {
     let found = memory::find_in(work, shape.capacity, x, op.call);
     match found {
@@ -152,7 +152,7 @@ impl Row {
     // "(d) read the page and decide". (No search comes here, nor to `write_page`.)
     fn decide(self, shape: Shape, op: Op, t: u16, x: u16, work: &mut [u8]) -> Row
         requires { ⌜ Ready shape (now work) × (self .used < 65535) × Readable shape (now work) x ⌝ }
-        ensures { λ r. ⌜ out r (now (work .exit)) ≡ memDecided shape op t self (now (work .entry)) x (op .kind) (findIn (pageIn (shape .capacity) (now (work .entry)) x .records) (op .call)) ⌝ }
+        ensures { λ r. ⌜ out r (now (work .exit)) ≡ memDecided shape op t self (now (work .entry)) x (op .kind) (lookIn (pageIn (shape .capacity) (now (work .entry)) x .records) (op .call)) ⌝ }
     {
         let found = memory::find_in(work, shape.capacity, x, op.call);
         let k = op.kind;
@@ -178,7 +178,7 @@ impl Row {
         match k {
             Kind::Search => self.moved(Stage::Held(x, Task::Unlock)),
             Kind::Insert => {
-                memory::append_to(work, shape.capacity, x, rec_of(op));
+                memory::add_to(work, shape.capacity, x, rec_of(op));
                 self.settled(x, codes::STORED, op.charge, t)
             }
             Kind::Delete => {

@@ -9,7 +9,7 @@ use spec::Op;
 use spec::Stage;
 ghost use mathlib.Core.Path.{_≡_};
 ghost use Prim.Native.Nat.{_≤_, _<_};
-ghost use Rattle.spec.specs.File.{findIn};
+ghost use Rattle.spec.specs.File.{lookIn};
 ghost use Rattle.spec.specs.Turn.{begin};
 ghost use Rattle.memory.specs.Memory.{pageIn};
 ghost use Rattle.turn.specs.Rows.{moved};
@@ -54,7 +54,7 @@ impl Row {
     // "read that page (found: finished)"
     pub(crate) fn read_page(self, shape: Shape, op: Op, t: u16, x: u16, work: &[u8]) -> Row
         requires { ⌜ Ready shape (now work) × (self .used < 65535) × Reading shape op (now work) x ⌝ }
-        ensures { λ r. ⌜ out r (now (work .entry)) ≡ memLooked shape op t self (now (work .entry)) x (findIn (pageIn (shape .capacity) (now (work .entry)) x .records) (op .call)) ⌝ }
+        ensures { λ r. ⌜ out r (now (work .entry)) ≡ memLooked shape op t self (now (work .entry)) x (lookIn (pageIn (shape .capacity) (now (work .entry)) x .records) (op .call)) ⌝ }
     {
         let found = memory::find_in(work, shape.capacity, x, op.call);
         match found {

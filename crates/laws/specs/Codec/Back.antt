@@ -54,7 +54,7 @@ pub number-back : (n : ℕ) → n < 65536 → numberOf (two n) ≡ n
 unfolding numberOf two
 number-back n h = word-two n [] h
 
-record-back : (r : Rec) → RecFits r → recordOf (recordBytes r) ≡ r
+pub record-back : (r : Rec) → RecFits r → recordOf (recordBytes r) ≡ r
 unfolding recordOf recordBytes long word byte four two
 record-back r h = λ i. record { call = long-four (r .call) [] (h .call) i; charge = long-four (r .charge) [] (h .charge) i }
 

@@ -30,7 +30,7 @@ record-fits : (p : List ℕ) → AreBytes p → RecFits (recordOf p)
 unfolding recordOf
 record-fits p h = record { call = long-lt p h 0; charge = long-lt p h 4 }
 
-page-fits : (p : List ℕ) → AreBytes p → Each RecFits (pageOf p .records)
+pub page-fits : (p : List ℕ) → AreBytes p → Each RecFits (pageOf p .records)
 unfolding pageOf
 page-fits p h = each-map recordOf _ .1 (each-imp record-fits (parts-bytes (byte p 1) 8 (drop 4 p) (drop-bytes 4 p h)))
 

@@ -1,69 +1,63 @@
--- Row 8 as a property of a file: in every page in use, each call's pseudo key begins with the page's pattern, and no call is there twice.
--- The row looks for the call among the records before it, `NoneTwice` among those behind it.
-use Prim.Native.Nat.{ℕ, zero, suc, _<_, _≤_}
-use mathlib.Core.Path.{_≡_, refl, sym, _∙_}
+-- Row 8 as a property of a file: in every page in use, each call's pseudo key begins with the page's pattern, and calls rise.
+-- The row compares a call with the one before it, `CallsRise` with all those behind it.
+use Prim.Native.Nat.{ℕ, zero, suc, _-_, _<_, _≤_}
+use mathlib.Core.Path.{_≡_}
 use mathlib.Core.Logic.{_↔_, Iff·rfl}
 use mathlib.Core.List.{List, [], _∷_}
-use mathlib.Core.Bool.{false, true≢false}
-use mathlib.Core.Option.{Option, none, some, Option·none-ne-some}
+use mathlib.Core.Option.{none}
 use native.Mathlib.Omega.{arith}
-use lib.ListN.{length, getD, take}
+use lib.ListN.{length, getD}
 use Rattle.spec.specs.declared.Rec.{Rec}
-use Rattle.spec.specs.Basics.{isSome, firstOf, Each}
-use Rattle.spec.specs.File.{Page, File, pageAt, pagesInUse, findIn}
+use Rattle.spec.specs.Basics.{firstOf, Each, end, next}
+use Rattle.spec.specs.File.{Page, File, noRecord, pageAt, pagesInUse}
 use Rattle.spec.specs.Job.{Header}
-use Rattle.spec.specs.Check.{badRecord, recordFault, recordFaultIn}
-use Rattle.spec.specs.Proper.{NoneTwice, empty, more, In, PageNo}
-use Rattle.laws.specs.Turns.Records.{find-nil, find-miss, none-head, none-tail}
+use Rattle.spec.specs.Check.{notAbove, badRecord, recordFault, recordFaultIn}
+use Rattle.spec.specs.Proper.{CallsRise, flat, rise, In, PageNo}
+use Rattle.laws.specs.Tools.{each-imp, each-at}
+use Rattle.laws.specs.Turns.CallsRise.{lowest}
 use Rattle.laws.specs.Codec.Tools.{failed, each-places}
-use Rattle.laws.specs.Codec.Walk.{by-places, first-none}
+use Rattle.laws.specs.Codec.Walk.{first-none}
 use Rattle.laws.specs.Codec.InUse.{first-in-use}
 
-isSome-no : {A : Type 0} (o : Option A) → isSome o ≡ false ↔ o ≡ none
-unfolding isSome
-isSome-no none = (λ e. refl, λ e. refl)
-isSome-no (some x) = (λ e. absurd (true≢false e), λ e. absurd (Option·none-ne-some _ (sym e)))
+-- calls rise, each above the one before it
+abbrev Above : List Rec → Type 0
+Above rs = (k : ℕ) → suc k < length rs → getD rs k noRecord .call < getD rs (suc k) noRecord .call
 
--- a call is not among the records
-find-cons : (r : Rec) (rs : List Rec) (k : ℕ) → findIn (r ∷ rs) k ≡ none ↔ (r .call ≡ k → ⊥) × (findIn rs k ≡ none)
-find-cons r rs k = (λ q. (none-head r rs k q, none-tail r rs k q), λ h. find-miss r rs k (h .0) ∙ h .1)
+rise-above : {rs : List Rec} → CallsRise rs → Above rs
+rise-above flat k l = absurd (omega arith)
+rise-above (rise {rs = rs} low h) zero l = each-at rs 0 noRecord (omega arith) low
+rise-above (rise low h) (suc k) l = rise-above h k (omega arith)
 
-abbrev blank : Rec
-blank = record { call = 0; charge = 0 }
+above-rise : (rs : List Rec) → Above rs → CallsRise rs
+above-rise [] h = flat
+above-rise (r ∷ []) h = rise end flat
+above-rise (r ∷ a ∷ rs) h =
+    let low = h 0 (omega arith) in
+    let t = above-rise (a ∷ rs) (λ k l. h (suc k) (omega arith)) in
+    rise (next low (each-imp (λ b u. omega arith) (lowest t))) t
 
-find-none : (rs : List Rec) (k : ℕ) → findIn rs k ≡ none ↔ ((i : ℕ) → i < length rs → getD rs i blank .call ≡ k → ⊥)
-find-none [] k = (λ e i l. absurd (omega arith), λ h. find-nil k)
-find-none (r ∷ rs) k = simp (find-cons, find-none rs k) (by-places (λ i a. a .call ≡ k → ⊥) r rs blank)
+-- as row 8 counts: the first record has none before it
+abbrev AboveLast : List Rec → ℕ → Type 0
+AboveLast rs k = 0 < k → getD rs (k - 1) noRecord .call < getD rs k noRecord .call
 
--- no call twice, by the records before each one
-abbrev NoneBefore : List Rec → Type 0
-NoneBefore rs = (k : ℕ) → k < length rs → findIn (take k rs) (getD rs k blank .call) ≡ none
+above-last : {rs : List Rec} → CallsRise rs → (k : ℕ) → k < length rs → AboveLast rs k
+above-last h zero l z = absurd (omega arith)
+above-last h (suc k) l z = let e : suc k - 1 ≡ k = omega arith in rw e (rise-above h k l)
 
-none-before : {rs : List Rec} → NoneTwice rs → NoneBefore rs
-none-before empty k l = absurd (omega arith)
-none-before (more e t) zero l = find-nil _
-none-before (more {r = r} {rs = rs} e t) (suc k) l =
-    find-cons r (take k rs) _ .1 (λ q. find-none rs (r .call) .0 e k (omega arith) (sym q), none-before t k (omega arith))
-
-none-twice : (rs : List Rec) → NoneBefore rs → NoneTwice rs
-none-twice [] h = empty
-none-twice (r ∷ rs) h =
-    more (find-none rs (r .call) .1 (λ k l q. earlier k l .0 (sym q))) (none-twice rs (λ k l. earlier k l .1))
-  where
-    earlier : (k : ℕ) → k < length rs → (r .call ≡ getD rs k blank .call → ⊥) × (findIn (take k rs) (getD rs k blank .call) ≡ none)
-    earlier k l = find-cons r (take k rs) (getD rs k blank .call) .0 (h (suc k) (omega arith))
+last-above : (rs : List Rec) → ((k : ℕ) → k < length rs → AboveLast rs k) → Above rs
+last-above rs h k l = let e : suc k - 1 ≡ k = omega arith in rw e at (h (suc k) l (omega arith))
 
 -- the records of a page that row 8 does not refuse
 pub record RecordsOk (p : Page) : Type 0 where
   pub homed : Each (λ a. In p (a .call)) (p .records)
-  pub once : NoneTwice (p .records)
+  pub rising : CallsRise (p .records)
 
 page-records : (place : ℕ) (p : Page) → firstOf (recordFault place p) 0 (p .records) ≡ none ↔ RecordsOk p
-unfolding recordFault badRecord
+unfolding recordFault badRecord notAbove
 page-records place p =
-    simp (first-none (recordFault place p) (p .records) blank, failed, isSome-no) (
-      λ h. record { homed = each-places _ blank .1 (λ k l. h k l .0); once = none-twice _ (λ k l. h k l .1) },
-      λ ok k l. (each-places _ blank .0 (ok .homed) k l, none-before (ok .once) k l),
+    simp (first-none (recordFault place p) (p .records) noRecord, failed) (
+      λ h. record { homed = each-places _ noRecord .1 (λ k l. h k l .0); rising = above-rise _ (last-above (p .records) (λ k l. h k l .1)) },
+      λ ok k l. (each-places _ noRecord .0 (ok .homed) k l, above-last (ok .rising) k l),
     )
 
 -- row 8

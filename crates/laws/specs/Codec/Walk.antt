@@ -12,9 +12,15 @@ use Rattle.spec.specs.Basics.{orElse, firstOf, anyOf, Each, end}
 use Rattle.laws.specs.Tools.{first, rest}
 use Rattle.laws.specs.Codec.Tools.{or-no, orElse-none, each-cons}
 
+-- what comes second matters only where the first is not there
+orElse-under : {A : Type 0} (o : Option A) {x y : Option A} → (o ≡ none → x ≡ y) → orElse o x ≡ orElse o y
+unfolding orElse
+orElse-under none h = h refl
+orElse-under (some p) h = refl
+
 module _ {A : Type 0} where
   -- of a statement about the first member and one about the later, one about every place; and back
-  pub by-places
+  by-places
       : (P : ℕ → A → Type 0) (x : A) (xs : List A) (d : A)
       → P 0 x × ((k : ℕ) → k < length xs → P (suc k) (getD xs k d)) ↔ ((k : ℕ) → k < length (x ∷ xs) → P k (getD (x ∷ xs) k d))
   by-places P x xs d = (there, λ h. (h zero (omega arith), λ k l. h (suc k) (omega arith)))
@@ -58,6 +64,20 @@ module _ {A B : Type 0} where
   first-at f (x ∷ xs) d zero p l before e = rw (first-cons, e)
   first-at f (x ∷ xs) d (suc k) p l before e =
       rw (first-cons, before zero (omega arith)) (first-at (λ q. f (suc q)) xs d k p (omega arith) (λ q u. before (suc q) (omega arith)) e)
+
+  -- two walks find the same, if they agree on each member before which the first finds nothing
+  pub first-agree
+      : (f g : ℕ → A → Option B) (xs : List A) (d : A)
+      → ((k : ℕ) → k < length xs → ((q : ℕ) → q < k → f q (getD xs q d) ≡ none) → f k (getD xs k d) ≡ g k (getD xs k d))
+      → firstOf f 0 xs ≡ firstOf g 0 xs
+  first-agree f g [] d h = first-nil f ∙ sym (first-nil g)
+  first-agree f g (x ∷ xs) d h =
+      rw (first-cons f x xs, first-cons g x xs, sym (h zero (omega arith) (λ q l. absurd (omega arith))))
+      (orElse-under (f 0 x) (λ e. first-agree (λ k. f (suc k)) (λ k. g (suc k)) xs d (λ k l before. h (suc k) (omega arith) (all e k before))))
+    where
+      all : f 0 x ≡ none → (k : ℕ) → ((q : ℕ) → q < k → f (suc q) (getD xs q d) ≡ none) → (q : ℕ) → q < suc k → f q (getD (x ∷ xs) q d) ≡ none
+      all e k before zero l = e
+      all e k before (suc q) l = before q (omega arith)
 
   -- nothing is found exactly if every member passes a test that does not ask for its number
   pub first-each : (f : ℕ → A → Option B) (P : A → Type 0) → ((k : ℕ) (x : A) → f k x ≡ none ↔ P x) → (xs : List A) → firstOf f 0 xs ≡ none ↔ Each P xs

@@ -13,6 +13,7 @@ use Rattle.spec.specs.File.{File, pageAt, entryAt, findIn, hasIndex, ofIndex, h
 use Rattle.spec.specs.Proper.{NoneTwice, empty, Fit, PageOk}
 use Rattle.laws.specs.Turns.Prefix.{index-in}
 use Rattle.laws.specs.Turns.Records.{find-nil, find-left, find-right, filter-find, filter-lost, filter-twice, join-twice}
+use Rattle.laws.specs.Turns.CallsRise.{rise-once}
 use Rattle.laws.specs.Turns.Lookup.{lookup}
 
 of-same : (g k : ℕ) (rs : List Rec) → findIn (ofIndex g (index g k) rs) k ≡ findIn rs k
@@ -46,7 +47,7 @@ held-twice : (n : ℕ) (f : File) (j : ℕ) → ((x : ℕ) → PageOk (f .g) (f 
 unfolding heldFrom ofIndex
 held-twice zero f j ok = empty
 held-twice (suc n) f j ok =
-    join-twice _ _ (filter-twice (hasIndex (f .g) j) _ (ok (entryAt f j) .once)) (held-twice n f (suc j) ok)
+    join-twice _ _ (filter-twice (hasIndex (f .g) j) _ (rise-once _ (ok (entryAt f j) .rising))) (held-twice n f (suc j) ok)
     (λ k.
     by-cases (ℕ-discrete (index (f .g) k) j) (λ e. inr (held-none n f (suc j) k (omega arith))) (λ e. inl (of-other (f .g) j k _ e)))
 

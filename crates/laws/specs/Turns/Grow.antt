@@ -13,7 +13,8 @@ use Rattle.spec.specs.Split.{hasBit, withBit, digit, half, added, Grown, joined
 use Rattle.spec.specs.Proper.{In}
 use Rattle.laws.specs.Tools.{if-case, beq-refl, first, rest, each-imp}
 use Rattle.laws.specs.Turns.Prefix.{of-half, to-half}
-use Rattle.laws.specs.Turns.Records.{added-other, filter-find}
+use Rattle.laws.specs.Turns.Records.{filter-find}
+use Rattle.laws.specs.Turns.CallsRise.{put-other}
 use Rattle.laws.specs.Turns.Owners.{Lone, alone, one}
 
 pub withBit-find : (v : Bool) (l : ℕ) (rs : List Rec) (k : ℕ) → bit l k ≡ v → findIn (withBit v l rs) k ≡ findIn rs k
@@ -42,7 +43,7 @@ half-serves v p r l =
 
 added-serves : (p : Page) (r : Rec) → Serves p r (added p r)
 unfolding added
-added-serves p r = record { inside = λ k h. h; kept = λ k h n. added-other (p .records) r k n }
+added-serves p r = record { inside = λ k h. h; kept = λ k h n. put-other (p .records) r k n }
 
 same-serves : (p : Page) (r : Rec) → Serves p r p
 same-serves p r = record { inside = λ k h. h; kept = λ k h n. refl }

@@ -25,8 +25,9 @@ use Rattle.spec.specs.Code.{stored}
 use Rattle.spec.specs.State.{Row, State, Answer, same, answer, PageWrite, Move, gone, go}
 use Rattle.spec.specs.Turn.{recOf, planOf, begin, looked, reread, placed, decided, chargeIn, cleared, written, verified, oldWritten, heldTurn, splitTurn, turn}
 use Rattle.spec.specs.Run.{tableAfter, chargeAfter, rowAfter, rowOf, stageOf, tick, act, step, start, run}
-use Rattle.laws.specs.Tools.{if-case, first, rest, each-append, each-or, set-all, filter-each}
+use Rattle.laws.specs.Tools.{if-case, first, rest, each-or, set-all, filter-each}
 use Rattle.laws.specs.Turns.Records.{find-each}
+use Rattle.laws.specs.Turns.CallsRise.{put-each}
 use Rattle.laws.specs.Turns.Grow.{joined-each}
 use Rattle.laws.specs.Turns.Rows.{still, step-case, steps-keep, first-row}
 
@@ -45,7 +46,7 @@ module _ (P : Rec → Type 0) where
   grow-all c (suc n) p r h w =
       let v = bit (p .depth) (r .call) in
       let part : (v : Bool) → Each P (withBit v (p .depth) (p .records)) = λ v. filter-each _ (p .records) (λ a i u. i) h in
-      if-case (λ (t : Grown). Each EachOf (t .old ∷ t .news)) (λ e. next (each-append (p .records) _ h (next w end)) end)
+      if-case (λ (t : Grown). Each EachOf (t .old ∷ t .news)) (λ e. next (put-each (p .records) r h w) end)
       (λ e. joined-each v _ _ (part (not v)) (grow-all c n (half v p) r (part v) w))
 
   abbrev pub EveryRecord : File → Type 0
@@ -106,7 +107,7 @@ module _ (P : Rec → Type 0) where
       written-all : (x : ℕ) (k : Kind) → M (written s op x k (pageAt (s .file) x))
       unfolding written added cleared without
       written-all x Search = calm tt
-      written-all x Insert = record { page = each-append _ _ (all x) (next own end); charge = of-rec (recOf op) own }
+      written-all x Insert = record { page = put-each _ _ (all x) own; charge = of-rec (recOf op) own }
       written-all x Delete = record { page = filter-each _ _ (λ a i u. i) (all x); charge = in-all _ (op .call) _ (all x) refl }
 
       stored-all : (t : Bool) → Charged (if t (answer stored (op .charge) (s .now)) same)

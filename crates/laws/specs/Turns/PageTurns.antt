@@ -25,7 +25,8 @@ use Rattle.spec.specs.Run.{tableAfter, directoryAfter, fileAfter}
 use Rattle.spec.specs.Proper.{In, PageNo, PageOk}
 use Rattle.laws.specs.Tools.{if-case}
 use Rattle.laws.specs.Turns.Prefix.{fit-32}
-use Rattle.laws.specs.Turns.Records.{added-other, added-own, without-own, without-other}
+use Rattle.laws.specs.Turns.Records.{without-own, without-other}
+use Rattle.laws.specs.Turns.CallsRise.{put-other, put-own}
 use Rattle.laws.specs.Turns.Shared.{not-allShare}
 use Rattle.laws.specs.Turns.Pages.{added-ok, cleared-ok}
 use Rattle.laws.specs.Turns.Rows.{still}
@@ -173,10 +174,10 @@ module _ (ops : List Op) (s : State) (op : Op) (good : Good ops s) (tidy : Tidy 
     written-does Insert e l w =
         let h = w .1 e in
         put x _ (l .1) (added-ok (f .g) (f .c) (pageAt f x) (recOf op) (tidy .pages x) mine (h .1) (h .0)) in-x
-        (λ k n d. added-other (pageAt f x .records) (recOf op) k n)
+        (λ k n d. put-other (pageAt f x .records) (recOf op) k n)
         (says (isStored e (here ∙ h .0)
-        (page-own f x _ (page-lt f (good .fit) x (l .1)) (op .call) at ∙ added-own (pageAt f x .records) (recOf op) (h .0))))
-        (inr (λ k r u n. sym (added-other (pageAt f x .records) (recOf op) k (λ z. n (rw z at))) ∙ u))
+        (page-own f x _ (page-lt f (good .fit) x (l .1)) (op .call) at ∙ put-own (pageAt f x .records) (recOf op) (h .0))))
+        (inr (λ k r u n. sym (put-other (pageAt f x .records) (recOf op) k (λ z. n (rw z at))) ∙ u))
         tt
         tt
     written-does Delete e l w =

@@ -2,13 +2,13 @@
 use Prim.Native.Nat.{ℕ, zero, suc, _+_, _^_, _<_, _≤_, _*_}
 use mathlib.Core.Path.{_≡_, refl, _∙_}
 use mathlib.Core.Logic.{_⊎_, inl, inr, ⊎-elim, by-cases}
-use mathlib.Core.List.{[], _∷_}
+use mathlib.Core.List.{_∷_}
 use mathlib.Core.Bool.{Bool, true, false, not, not-eq-not}
 use mathlib.Core.Option.{none, some}
 use native.Mathlib.Omega.{arith}
 use native.Mathlib.Decide.{decLe}
 use native.Mathlib.Nat.{pow-suc}
-use lib.ListN.{length, length-append}
+use lib.ListN.{length}
 use borrow.Author.Tests.{ltb-true, ltb-false}
 use Rattle.spec.specs.declared.Rec.{Rec}
 use Rattle.spec.specs.Basics.{Each, end, next}
@@ -16,10 +16,10 @@ use Rattle.spec.specs.Key.{bit}
 use Rattle.spec.specs.File.{Page, zeroPage, findIn, isNot, without}
 use Rattle.spec.specs.Split.{hasBit, withBit, digit, half, added, Grown, grow, leastShared}
 use Rattle.spec.specs.Turn.{cleared}
-use Rattle.spec.specs.Proper.{empty, In, PageOk}
-use Rattle.laws.specs.Tools.{if-case, beq-true, each-append, filter-each, filter-le}
+use Rattle.spec.specs.Proper.{flat, In, PageOk}
+use Rattle.laws.specs.Tools.{if-case, beq-true, filter-each, filter-le}
 use Rattle.laws.specs.Turns.Prefix.{of-half, to-half}
-use Rattle.laws.specs.Turns.Records.{added-own, filter-twice, added-twice}
+use Rattle.laws.specs.Turns.CallsRise.{put-own, put-length, put-each, put-rise, filter-rise}
 use Rattle.laws.specs.Turns.Shared.{least-most, least-all, next-bit, bit-next}
 use Rattle.laws.specs.Turns.Grow.{withBit-find, joined-each}
 use Rattle.laws.specs.Turns.Count.{withBit-all, withBit-few, shares-of}
@@ -36,9 +36,9 @@ added-ok g c p r h i l n =
     record {
       deep = h .deep;
       small = h .small;
-      room = let e = length-append (p .records) (r ∷ []) in omega arith;
-      homed = each-append (p .records) _ (h .homed) (next i end);
-      once = added-twice (p .records) r (h .once) n;
+      room = let e = put-length (p .records) r in omega arith;
+      homed = put-each (p .records) r (h .homed) i;
+      rising = put-rise (p .records) r (h .rising) n;
     }
 
 half-small : (v : Bool) (q d : ℕ) → q < 2 ^ d → 2 * q + digit v < 2 ^ suc d
@@ -59,7 +59,7 @@ half-ok g c v p h l w =
           let b : bit (p .depth) (r .call) ≡ v = beq-true _ _ e in
           rw b at (to-half (p .depth) (r .call) (p .pattern) (omega arith) i))
           (h .homed);
-      once = filter-twice (hasBit v (p .depth)) (p .records) (h .once);
+      rising = filter-rise (hasBit v (p .depth)) (p .records) (h .rising);
     }
 
 pub cleared-ok : (g c : ℕ) (p : Page) (k : ℕ) → PageOk g c p → PageOk g c (cleared p k)
@@ -70,11 +70,11 @@ cleared-ok g c p k h =
       small = h .small;
       room = let l = filter-le (isNot k) (p .records) in omega (arith, h .room);
       homed = filter-each (isNot k) (p .records) (λ r i e. i) (h .homed);
-      once = filter-twice (isNot k) (p .records) (h .once);
+      rising = filter-rise (isNot k) (p .records) (h .rising);
     }
 
 pub empty-ok : (g c : ℕ) → PageOk g c zeroPage
-empty-ok g c = record { deep = omega arith; small = omega arith; room = omega arith; homed = end; once = empty }
+empty-ok g c = record { deep = omega arith; small = omega arith; room = omega arith; homed = end; rising = flat }
 
 -- an insert into page p comes to an end: there is room, or enough splits are allowed
 abbrev Ready : ℕ → ℕ → ℕ → Page → ℕ → Type 0
@@ -125,7 +125,7 @@ grow-made g c (suc n) p r w h i a d =
     let k = least-most (p .records) (r .call) (p .depth) (omega (arith, h .deep)) (shares-of p (r .call) (h .homed) i) in
     let v = bit (p .depth) (r .call) in
     if-case (λ (t : Grown). Each (Made g c r) (t .old ∷ t .news))
-    (λ e. next (record { ok = added-ok g c p r h i (ltb-true _ c e) a; there = λ j. added-own (p .records) r a }) end)
+    (λ e. next (record { ok = added-ok g c p r h i (ltb-true _ c e) a; there = λ j. put-own (p .records) r a }) end)
     (λ e.
     let full : c ≤ length (p .records) = ltb-false _ c e in
     ⊎-elim (λ x. absurd (omega arith))

@@ -10,7 +10,7 @@ use native.Mathlib.Omega.{arith}
 use native.Mathlib.Decide.{ℕ-discrete}
 use borrow.Author.Tests.{eq-eqb, ne-eqb}
 use Rattle.spec.specs.declared.Rec.{Rec}
-use Rattle.spec.specs.Basics.{filter, Each, Has, here, there}
+use Rattle.spec.specs.Basics.{if, filter, Each, Has, here, there}
 use Rattle.spec.specs.File.{Page, findIn, isNot, without}
 use Rattle.spec.specs.Proper.{NoneTwice, empty, more, In}
 use Rattle.laws.specs.Tools.{if-case, if-true, if-false, first, rest}
@@ -26,6 +26,10 @@ find-hit r rs k e = if-true _ _ (eq-eqb _ _ e)
 pub find-miss : (r : Rec) (rs : List Rec) (k : ℕ) → (r .call ≡ k → ⊥) → findIn (r ∷ rs) k ≡ findIn rs k
 unfolding findIn
 find-miss r rs k n = if-false _ _ (ne-eqb _ _ n)
+
+pub find-under : (r : Rec) (xs ys : List Rec) (k : ℕ) → findIn xs k ≡ findIn ys k → findIn (r ∷ xs) k ≡ findIn (r ∷ ys) k
+unfolding findIn
+find-under r xs ys k e = ap (if _ (some r)) e
 
 pub none-head : (r : Rec) (rs : List Rec) (k : ℕ) → findIn (r ∷ rs) k ≡ none → r .call ≡ k → ⊥
 none-head r rs k h e = let z : _≡_ {A = ℕ} 0 1 = cc (find-hit r rs k e) in omega arith

@@ -7,8 +7,8 @@ use native.Mathlib.Omega.{arith}
 use lib.ListN.{getD}
 use Rattle.spec.specs.Basics.{if, end, next}
 use Rattle.spec.specs.Key.{index, begins}
-use Rattle.spec.specs.File.{File, zeroPage, pageAt, entryAt, findIn}
-use Rattle.spec.specs.Proper.{empty, more, PageNo, PageOk, FileOk}
+use Rattle.spec.specs.File.{File, zeroPage, pageAt, entryAt}
+use Rattle.spec.specs.Proper.{flat, rise, PageNo, PageOk, FileOk}
 use Rattle.laws.specs.Key.{index-lt}
 
 abbrev pub fileE : File
@@ -35,7 +35,7 @@ dir-one (suc zero) l = refl
 dir-one (suc (suc e)) l = absurd (omega arith)
 
 pub fileE-ok : FileOk fileE
-unfolding pageAt entryAt findIn if begins
+unfolding pageAt entryAt if begins
 fileE-ok =
     record {
       fit =
@@ -74,6 +74,6 @@ fileE-ok =
           small = omega arith;
           room = omega arith;
           homed = next (zero-index 2) (next (zero-index 3) end);
-          once = more refl (more refl empty);
+          rising = let low : 2 < 3 = omega arith in rise (next low end) (rise end flat);
         }
     pages (suc (suc x)) p = absurd (omega arith)

@@ -1,8 +1,8 @@
 -- `page::write_piece` meets its contract: the records that begin with the pattern, the call where it is its own page, and the page closed.
-use mathlib.Core.List.{[], _∷_, append-nil}
 use Prim.Native.Nat.{_<_}
 use native.Mathlib.Omega.{arith}
 use lib.ListN.{length}
+use Rattle.spec.specs.Bytes.{byte}
 use Rattle.spec.specs.File.{ofIndex}
 use Rattle.laws.specs.Tools.{if-true, if-false}
 use Rattle.page.specs.Room.{room}
@@ -21,8 +21,8 @@ spare c = omega (arith, c .before .before .before .before .before .before .pre .
 keep-requires : tie.Need-keep-requires
 keep-requires c κs = omega arith
 
-put-rec-requires : tie.Need-put-rec-requires
-put-rec-requires c κs = omega (arith, spare (c .before), kept-length (c .before .before .before .before .keep .ensures))
+put-in-requires : tie.Need-put-in-requires
+put-in-requires c κs = omega (arith, spare (c .before), kept-length (c .before .before .before .before .keep .ensures))
 
 add-close : tie.Need-add-close
 add-close c = omega (arith, spare (c .before .before .before .before .before))
@@ -37,13 +37,14 @@ same-length : tie.Need-same-length
 same-length c = search needs
 
 returns : tie.Need-returns
-unfolding cut ofIndex passesOf
+unfolding cut ofIndex passesOf byte
 returns c =
     let a = c .before .before .before .before .before .before .before .before .before .before .before .before .before .before in
     let q = a .args .q in
     let m = c .before .before .before .before .before .before .before .before .before .before .before .keep in
-    rw (if-true (a .args .r ∷ []) [] (c .before .before .before .before .before .before .before .before .if1 .taken))
-    (cc (kept-image-more (m .ensures) (a .pre .0) (q .depth) (q .pattern) (a .args .r) (spare (c .before .before .before .before .before .before .before .before))))
+    let known = c .before .before .before .before .before .before .before .before .before .before .before .before .before .slice-known .given in
+    rw (if-true _ _ (c .before .before .before .before .before .before .before .before .if1 .taken))
+    (cc (kept-image-more (m .ensures) (a .pre .0) (q .depth) (q .pattern) (a .args .r) (λ k. omega (arith, known k)) (spare (c .before .before .before .before .before .before .before .before))))
 
 same-length-2 : tie.Need-same-length-2
 same-length-2 c = search needs
@@ -54,7 +55,7 @@ returns-2 c =
     let a = c .before .before .before .before .before .before .before .before .before .before in
     let q = a .args .q in
     let m = c .before .before .before .before .before .before .before .keep in
-    rw (if-false (a .args .r ∷ []) [] (c .before .before .before .before .if1 .left), append-nil)
+    rw (if-false _ _ (c .before .before .before .before .if1 .left))
     (cc (kept-image (m .ensures) (a .pre .0) (q .depth) (q .pattern)))
 
 pub write-piece-spec : {M : Type 1} → statement M
@@ -62,7 +63,7 @@ write-piece-spec =
     tie.close
     (tie.spec
     keep-requires
-    put-rec-requires
+    put-in-requires
     add-close
     close-requires
     close-requires-2

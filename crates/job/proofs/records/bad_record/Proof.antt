@@ -23,17 +23,17 @@ returns c =
     let i = c .before .before in
     rw (← i .before .before .call-at .ensures, ← i .before .u8-at .ensures .0, ← i .index .ensures .0, ← c .before .u16-at .ensures .0, ne-eqb _ _ (c .if1 .taken))
 
-is-among-requires : tie.Need-is-among-requires
-is-among-requires c κs = omega arith
+not-above-requires : tie.Need-not-above-requires
+not-above-requires c κs = omega arith
 
 returns-2 : tie.Need-returns-2
 unfolding badRecord pageOf
 returns-2 c =
     let q = c .before in
     let i = q .before .before in
-    rw (← i .before .before .call-at .ensures, ← i .before .u8-at .ensures .0, ← i .index .ensures .0, ← q .before .u16-at .ensures .0, eq-eqb _ _ (q .if1 .left)) (c .is-among .ensures)
+    rw (← i .before .before .call-at .ensures, ← i .before .u8-at .ensures .0, ← i .index .ensures .0, ← q .before .u16-at .ensures .0, eq-eqb _ _ (q .if1 .left)) (c .not-above .ensures)
 
 pub bad-record-spec : {M : Type 1} → statement M
 bad-record-spec =
     tie.close
-    (tie.spec call-at-requires u8-at-requires index-requires u16-at-requires returns is-among-requires returns-2)
+    (tie.spec call-at-requires u8-at-requires index-requires u16-at-requires returns not-above-requires returns-2)

@@ -15,8 +15,8 @@ enum-told-2 c = search needs
 rec-of-requires : tie.Need-rec-of-requires
 rec-of-requires c κs = search needs
 
-append-to-requires : tie.Need-append-to-requires
-append-to-requires c κs =
+add-to-requires : tie.Need-add-to-requires
+add-to-requires c κs =
     let a = c .before .before .before .before .before in
     let h = rw (c .before .before .enum-told2 .given .1) at (a .pre .2) in
     (record { size = a .pre .0 .size; capacity = a .pre .0 .capacity; number = h .0 }, h .1)
@@ -51,7 +51,7 @@ same-length c = search needs
 
 returns-2 : tie.Need-returns-2
 unfolding memWritten
-returns-2 c = rw (c .before .before .before .before .before .before .enum-told2 .given .1, c .settled .ensures, c .before .before .before .append-to .ensures, c .before .before .before .before .rec-of .ensures)
+returns-2 c = rw (c .before .before .before .before .before .before .enum-told2 .given .1, c .settled .ensures, c .before .before .before .add-to .ensures, c .before .before .before .before .rec-of .ensures)
 
 same-length-2 : tie.Need-same-length-2
 same-length-2 c = search needs
@@ -68,7 +68,7 @@ write-page-spec =
     moved-requires
     enum-told-2
     rec-of-requires
-    append-to-requires
+    add-to-requires
     settled-requires
     enum-told-3
     charge-in-requires
