@@ -5,8 +5,6 @@
 //! row of pages counts it from the page's first byte. It may take for granted
 //! that no row is met that is checked before it.
 
-use std::collections::HashSet;
-
 use crate::job::{
     Counts, Kind, ENTRY_LENGTH, HEADER_LENGTH, JOB_VERSION, MAX_CAPACITY, MAX_DEPTH,
     MAX_OPERATIONS, MAX_PAGES, MAX_TURNS, OPERATION_LENGTH, TURN_LENGTH,
@@ -221,17 +219,21 @@ fn owner(job: &[u8]) -> Option<usize> {
     Some(entry_place(&counts, j))
 }
 
-/// Row 8: "pseudo key does not begin with the pattern, or the call is earlier
-/// in the page".
+/// Row 8: "pseudo key does not begin with the pattern", or the record "is not
+/// above the one before it". That "the call is earlier in the page" needs no
+/// look of its own: from there on the calls cannot all have risen.
 fn record(job: &[u8]) -> Option<usize> {
     let counts = Counts::read(job);
     for (p, page) in pages_in_use(job, &counts).iter().enumerate() {
-        let mut earlier = HashSet::new();
+        let mut before = None;
         for (k, record) in page.records.iter().enumerate() {
-            let first_bits = key::index(record.call, page.depth);
-            if first_bits != page.pattern as usize || !earlier.insert(record.call) {
+            let begins = key::index(record.call, page.depth) == page.pattern as usize;
+            // The first record has none before it, and `None` is below all.
+            let rises = before < Some(record.call);
+            if !begins || !rises {
                 return Some(page_place(&counts, p + 1) + 4 + 8 * k);
             }
+            before = Some(record.call);
         }
     }
     None

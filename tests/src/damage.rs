@@ -2,16 +2,17 @@
 //!
 //! A [`Fault`] is made in a sound job at a place that is known beforehand, so
 //! a test can ask for exactly that number and place; those of a page are in
-//! [`crate::damage_pages`]. [`scribble`] damages at random; what comes of it
-//! has to be found out some other way.
+//! [`crate::damage_pages`], those of a record in [`crate::damage_records`].
+//! [`scribble`] damages at random; what comes of it has to be found out some
+//! other way.
 
 use crate::check::{entry_place, page_place};
 use crate::damage_pages;
+use crate::damage_records;
 use crate::job::{
     Counts, Job, Kind, Layout, HEADER_LENGTH, MAX_CAPACITY, MAX_DEPTH, MAX_OPERATIONS, MAX_PAGES,
     MAX_TURNS, OPERATION_LENGTH, TURN_LENGTH,
 };
-use crate::page::Page;
 use crate::random::Random;
 
 /// The numbers that a fault can be asked for: all rows about the job's bytes,
@@ -30,7 +31,7 @@ pub struct Fault {
 }
 
 impl Fault {
-    fn new(number: u32, place: usize, edits: Vec<(usize, u8)>) -> Fault {
+    pub(crate) fn new(number: u32, place: usize, edits: Vec<(usize, u8)>) -> Fault {
         Fault {
             number,
             place: place as u32,
@@ -125,7 +126,7 @@ pub fn fault(random: &mut Random, job: &Job, number: u32) -> Option<Fault> {
         5 => Some(entry(random, &target)),
         6 => Some(damage_pages::some_count(random, job)),
         7 => owner(random, &target),
-        8 => record(random, &target),
+        8 => damage_records::some_record(random, job),
         9 => operation(random, &target),
         10 => turn(random, &target),
         12 => damage_pages::some_depth_or_pattern(random, job),
@@ -301,25 +302,6 @@ fn owner_by_page(random: &mut Random, target: &Target) -> Option<Fault> {
 /// The lowest entry that a pattern begins.
 fn first_entry(depth: u32, pattern: u32, global: u32) -> usize {
     (pattern << (global - depth)) as usize
-}
-
-fn record(random: &mut Random, target: &Target) -> Option<Fault> {
-    let file = &target.job.file;
-    let with_records = |number: &usize| !file.page(*number).records.is_empty();
-    let numbers: Vec<usize> = (1..=file.in_use).filter(with_records).collect();
-    if numbers.is_empty() {
-        return None;
-    }
-    let number = random.one_of(&numbers);
-    let Page { depth, records, .. } = file.page(number);
-    let k = random.below(records.len());
-    let call = match random.below(2) {
-        0 if *depth > 0 => records[k].call ^ (1 << random.below(*depth as usize)),
-        1 if k > 0 => records[random.below(k)].call,
-        _ => return None,
-    };
-    let place = page_place(&target.counts, number) + 4 + 8 * k;
-    Some(Fault::new(8, place, write(place, call as usize, 4)))
 }
 
 fn operation(random: &mut Random, target: &Target) -> Option<Fault> {

@@ -244,7 +244,7 @@ fn even_file(depth: u32, capacity: usize, page_count: usize, local: u32) -> Char
 fn filled(mut file: ChargeFile, calls: &[(u32, u32)]) -> ChargeFile {
     for &(call, charge) in calls {
         let number = file.page_of(call);
-        file.page_mut(number).records.push(record(call, charge));
+        *file.page_mut(number) = file.page(number).add(record(call, charge));
     }
     file
 }

@@ -11,9 +11,9 @@
 //! - [`check`]: the refusal of a job by its bytes, every row but 11, or `None`;
 //! - [`run`]: the result bytes, or the refusal, by every row;
 //! - [`report`]: what `chargelog` prints;
-//! - [`page::Page`] and [`split`]: find, append, remove and split a page;
-//! - [`make`], [`damage`], [`damage_pages`] and [`seeds`]: random jobs, damaged
-//!   jobs, and seeds that can be repeated;
+//! - [`page::Page`] and [`split`]: find, add, remove and split a page;
+//! - [`make`], [`damage`], [`damage_pages`], [`damage_records`] and [`seeds`]:
+//!   random jobs, damaged jobs, and seeds that can be repeated;
 //! - [`vectors`]: the stored jobs, with what is wanted of them;
 //! - [`tally`]: how often each number of refusal was met;
 //! - [`explain`]: whether a log explains its answers by the plain list.
@@ -22,6 +22,7 @@ pub mod answer;
 pub mod check;
 pub mod damage;
 pub mod damage_pages;
+pub mod damage_records;
 pub mod examples;
 pub mod explain;
 pub mod file;

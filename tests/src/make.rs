@@ -181,7 +181,7 @@ fn store(random: &mut Random, file: &mut ChargeFile, call: u32) {
     let full = file.page(number).records.len() == file.capacity;
     if !full && file.page(number).find(call).is_none() {
         let charge = charge(random);
-        file.page_mut(number).records.push(Record { call, charge });
+        *file.page_mut(number) = file.page(number).add(Record { call, charge });
     }
 }
 

@@ -10,9 +10,9 @@ pub struct Record {
     pub charge: u32,
 }
 
-/// A page: local depth, pattern of that many bits, and its records "in order
-/// of arrival". A page not in use is the page of depth 0 with no records,
-/// whose bytes are all zero.
+/// A page: local depth, pattern of that many bits, and its records, which
+/// "stand by rising call number". A page not in use is the page of depth 0 with
+/// no records, whose bytes are all zero.
 #[derive(Clone, Debug, Default, PartialEq, Eq)]
 pub struct Page {
     pub depth: u32,
@@ -26,15 +26,19 @@ pub fn page_length(capacity: usize) -> usize {
 }
 
 impl Page {
-    /// The record of a call, if the page has one.
+    /// The record of a call, if the page has one. The calls rise, so looking
+    /// for it "may then stop at the first higher number".
     pub fn find(&self, call: u32) -> Option<Record> {
-        self.records.iter().copied().find(|r| r.call == call)
+        let up_to_it = self.records.iter().take_while(|r| r.call <= call);
+        up_to_it.copied().find(|r| r.call == call)
     }
 
-    /// "Insert appends": the records keep their order of arrival.
-    pub fn append(&self, record: Record) -> Page {
+    /// "Records in every page stand by rising call number", and insert keeps
+    /// this: the record of a call that is missing goes behind all lower ones.
+    pub fn add(&self, record: Record) -> Page {
+        let lower = self.records.iter().filter(|r| r.call < record.call);
         let mut page = self.clone();
-        page.records.push(record);
+        page.records.insert(lower.count(), record);
         page
     }
 

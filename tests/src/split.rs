@@ -59,7 +59,7 @@ pub fn split(full: Full, record: Record, capacity: usize) -> Split {
             home = pages.len() - 1;
         }
     }
-    pages[home].1.records.push(record);
+    pages[home].1 = pages[home].1.add(record);
     let home = pages[home].0;
     let (_, old) = pages.remove(0);
     Split {

@@ -224,7 +224,7 @@ impl Progress {
             (Kind::Search, _) => unreachable!("a search locks nothing"),
             (Kind::Insert, Some(there)) => Err((Code::AlreadyThere, there.charge)),
             (Kind::Insert, None) if page.records.len() < shared.file.capacity => {
-                let written = page.append(Record { call, charge });
+                let written = page.add(Record { call, charge });
                 Ok(rewrite(number, written, Code::Stored, charge))
             }
             (Kind::Insert, None) => self

@@ -39,7 +39,7 @@ fn random_page(random: &mut Random, global: u32, count: usize) -> Page {
         pattern,
         records: Vec::new(),
     };
-    let variety = random.one_of(&[16, 1 << 10, 1 << 20]);
+    let variety = random.one_of(&[16, 1 << 10, 1 << 32]);
     let deeper = random.below(global as usize - depth as usize + 1) as u32;
     let hot = random.word() & ((1 << deeper) - 1);
     while page.records.len() < count {
@@ -47,18 +47,21 @@ fn random_page(random: &mut Random, global: u32, count: usize) -> Page {
         let call = call_with(pattern, depth, rest);
         if page.find(call).is_none() {
             let charge = random.word();
-            page.records.push(Record { call, charge });
+            page = page.add(Record { call, charge });
         }
     }
     page
 }
 
-fn calls(page: &Page) -> Vec<u32> {
-    page.records.iter().map(|record| record.call).collect()
+/// The records by rising call number, whatever order they come in.
+fn rising(records: &[Record]) -> Vec<Record> {
+    let mut sorted = records.to_vec();
+    sorted.sort_by_key(|record| record.call);
+    sorted
 }
 
 #[test]
-fn find_append_and_remove() {
+fn find_add_and_remove() {
     each_seed(PAGES, |seed| {
         let random = &mut Random::new(seed, "pages");
         let capacity = random.between(1, 8);
@@ -75,23 +78,51 @@ fn find_append_and_remove() {
             assert_eq!(without.find(record.call), None);
             assert_eq!(without.records[..k], page.records[..k]);
             assert_eq!(without.records[k..], page.records[k + 1..]);
-            let back = without.append(*record);
-            assert_eq!(back.records.last(), Some(record));
-            assert_eq!(back.records.len(), count);
+            assert_eq!(without.add(*record), page, "back at its place");
         }
     });
+}
+
+/// The order in which records come leaves no trace: they stand by rising call number.
+#[test]
+fn records_come_in_any_order() {
+    let mut places = [0; 8];
+    let whole = each_seed(PAGES, |seed| {
+        let random = &mut Random::new(seed, "any order");
+        let count = random.between(1, 8);
+        let page = random_page(random, 8, count);
+        let mut coming = page.records.clone();
+        random.shuffle(&mut coming);
+        let empty = Page {
+            records: Vec::new(),
+            ..page.clone()
+        };
+        let filled = coming.iter().fold(empty, |page, record| {
+            let more = page.add(*record);
+            let at = more.records.iter().position(|r| r == record);
+            places[at.expect("the record is added")] += 1;
+            more
+        });
+        assert_eq!(filled.records, rising(&coming));
+        assert_eq!(filled, page);
+    });
+    if whole {
+        println!("records added, by place: {places:?}");
+        assert!(places.iter().all(|times| *times >= 300), "{places:?}");
+    }
 }
 
 #[test]
 fn the_shared_bits_settle_the_split() {
     let (mut by_number, mut no_depth, mut largest) = ([0; 9], 0, 0);
+    let mut with_a_higher = 0;
     let whole = each_seed(PAGES, |seed| {
         let random = &mut Random::new(seed, "splits");
         let global = random.below(9) as u32;
         let capacity = random.between(1, 8);
         let mut page = random_page(random, global, capacity + 1);
-        // One record too many: the last to come is the one to be inserted.
-        let record = page.records.pop().unwrap();
+        // One record too many: any of them is the one to be inserted.
+        let record = page.records.remove(random.below(capacity + 1));
         let in_use = random.between(1, 200);
         let all_alike = |r: &Record| index(r.call, global) == index(record.call, global);
         let Some(needed) = new_pages_needed(&page, record.call, global) else {
@@ -112,13 +143,23 @@ fn the_shared_bits_settle_the_split() {
         assert!(needed <= (global - page.depth) as usize, "at most g - l");
         largest = largest.max(needed);
         by_number[needed] += 1;
+        with_a_higher += usize::from(has_higher(&split, record.call));
         split_is_right(&full, record, capacity, &split);
     });
     if whole {
         println!("splits by new pages: {by_number:?}, no depth: {no_depth}");
+        println!("with a higher call behind the one inserted: {with_a_higher}");
+        assert!(with_a_higher >= 2_000, "only {with_a_higher}");
         assert_eq!(largest, 8, "g - l with g 8 and l 0");
         assert!(no_depth >= 1_000 && by_number[1..=4].iter().all(|n| *n >= 500));
     }
+}
+
+/// Whether the call's page has a higher call too, so that the call does not go to its end.
+fn has_higher(split: &Split, call: u32) -> bool {
+    let new = split.new.iter().find(|(number, _)| *number == split.home);
+    let home = new.map_or(&split.old, |(_, page)| page);
+    home.records.iter().any(|record| record.call > call)
 }
 
 /// What must hold of a split, without asking how it was worked out.
@@ -128,15 +169,14 @@ fn split_is_right(full: &Full, record: Record, capacity: usize, split: &Split) {
     for (step, (number, _)) in split.new.iter().enumerate() {
         assert_eq!(*number, full.in_use + 1 + step, "in order of the splits");
     }
-    let arrived = full.page.append(record);
+    let all = rising(&[&full.page.records[..], &[record]].concat());
     for (number, page) in &pages {
         assert!(page.records.len() <= capacity);
-        // Each page has just the records its pattern asks for, in the order in
-        // which they came.
-        let mine = |call: &u32| index(*call, page.depth) == page.pattern as usize;
-        let wanted: Vec<u32> = calls(&arrived).into_iter().filter(mine).collect();
-        assert_eq!(calls(page), wanted);
-        assert_eq!(*number == split.home, wanted.contains(&record.call));
+        // Each page has just the records its pattern asks for, by rising call.
+        let mine = |r: &&Record| index(r.call, page.depth) == page.pattern as usize;
+        let wanted: Vec<Record> = all.iter().filter(mine).copied().collect();
+        assert_eq!(page.records, wanted);
+        assert_eq!(*number == split.home, wanted.contains(&record));
     }
     for j in 0..1usize << full.global {
         let owners = pages

@@ -101,6 +101,28 @@ fn a_delete_closes_the_gap() {
     assert_eq!(page[12..], [0; 8]);
 }
 
+#[test]
+fn an_insert_goes_in_front_of_the_higher_calls() {
+    let mut run = start(0, 1, &[9], &[(INSERT, 7)]);
+    run.deal_all(&[0; 6]);
+    assert_eq!(calls(&run, 1), [7, 9]);
+    let page = run.shared.file.page(1).to_bytes(2);
+    assert_eq!(page[4..12], [7, 0, 0, 0, 70, 0, 0, 0]);
+    assert_eq!(page[12..], [9, 0, 0, 0, 109, 0, 0, 0]);
+}
+
+/// Call 2 belongs in the old page and call 1 in the new one, each in front of a
+/// call that stays or moves there.
+#[test]
+fn a_split_puts_the_call_at_its_place() {
+    for (call, old, new) in [(2, vec![2, 4], vec![3]), (1, vec![4], vec![1, 3])] {
+        let mut run = start(1, 2, &[3, 4], &[(INSERT, call)]);
+        run.deal_all(&[0; 9]);
+        assert_eq!(answer(&run, 0), (Code::Stored, 10 * call, 9));
+        assert_eq!((calls(&run, 1), calls(&run, 2)), (old, new));
+    }
+}
+
 /// Calls 2, 4 and 6 have index 0, calls 1 and 3 index 1. The insert of 4
 /// splits page 1 while the delete of 3 holds what it read before.
 #[test]

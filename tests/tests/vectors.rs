@@ -58,7 +58,12 @@ fn the_vectors_are_all_there() {
         let (folder, _) = name.split_once('/').expect("a folder");
         *folders.entry(folder.to_string()).or_default() += 1;
     }
-    let wanted = [("00-base", 176), ("01-page-faults", 62), ("printed", 127)];
+    let wanted = [
+        ("00-base", 176),
+        ("01-page-faults", 61),
+        ("10-rising", 45),
+        ("printed", 104),
+    ];
     let wanted = wanted.map(|(folder, vectors)| (folder.to_string(), vectors));
     assert_eq!(folders, BTreeMap::from(wanted));
 }

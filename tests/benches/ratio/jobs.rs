@@ -34,15 +34,13 @@ impl Even {
         let in_use = 1 << self.local;
         let mut pages = vec![Page::default(); self.pages];
         for (pattern, page) in (0..in_use as u32).zip(&mut pages) {
-            let record = |i: usize| Record {
-                call: call_with(pattern, self.local, rest(i as u32)),
-                charge: 7 * i as u32 + pattern,
-            };
-            *page = Page {
-                depth: self.local,
-                pattern,
-                records: (0..self.records).map(record).collect(),
-            };
+            (page.depth, page.pattern) = (self.local, pattern);
+            for i in 0..self.records as u32 {
+                *page = page.add(Record {
+                    call: call_with(pattern, self.local, rest(i)),
+                    charge: 7 * i + pattern,
+                });
+            }
         }
         ChargeFile {
             depth: self.depth,

@@ -96,10 +96,11 @@ fn searches(call: fn(u32, u32) -> u32) -> Job {
     without_turns(Even::large(5, 8).file(), (0..256).map(search).collect())
 }
 
-/// 256 inserts, each into a page of its own that is half full.
+/// 256 inserts, each into a page of its own that is half full, at every place in it.
 fn inserts() -> Job {
-    let insert = |p| operation(Kind::Insert, call_with(p, 8, 1 << 20));
-    without_turns(Even::large(8, 4).file(), (0..256).map(insert).collect())
+    let file = Even::large(8, 4).file_with(|i| (i + 1) << 8);
+    let insert = |p| operation(Kind::Insert, call_with(p, 8, (p / 7 % 5) << 8 | 1));
+    without_turns(file, (0..256).map(insert).collect())
 }
 
 /// 256 deletes, each from a full page of its own, from every place in it.

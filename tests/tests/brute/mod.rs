@@ -218,14 +218,22 @@ fn record_faults(job: &[u8], sections: &Sections) -> Vec<Refusal> {
         for k in 0..usize::from(job[page + 1]) {
             let place = page + 4 + 8 * k;
             let call = number(job, place, 4);
-            let key: String = bits(call, 32).chars().rev().collect();
-            if !key.starts_with(&pattern(job, page)) || earlier.contains(&call) {
+            if record_is_wrong(call, &earlier, &pattern(job, page)) {
                 faults.push((8, place as u32));
             }
             earlier.push(call);
         }
     }
     faults
+}
+
+/// The three sentences of row 8 about a call, each asked by itself, with the
+/// calls that are earlier in its page.
+fn record_is_wrong(call: usize, earlier: &[usize], pattern: &str) -> bool {
+    let key: String = bits(call, 32).chars().rev().collect();
+    let not_begun = !key.starts_with(pattern);
+    let not_above = earlier.last().is_some_and(|before| call <= *before);
+    not_begun || not_above || earlier.contains(&call)
 }
 
 fn operation_faults(job: &[u8], sections: &Sections) -> Vec<Refusal> {
