@@ -95,7 +95,8 @@ pub fn counted(job: &Job, number: usize, count: u8) -> Option<Fault> {
     Some(Fault::new(8, place(met), edits))
 }
 
-/// A fault of row 8 in some page.
+/// A fault of row 8 in some page. Many a change leaves a page of few records
+/// sound, so several are tried.
 pub fn some_record(random: &mut Random, job: &Job) -> Option<Fault> {
     let held = |number: usize| job.file.page(number).records.len();
     let with_records = (1..=job.file.in_use).filter(|number| held(*number) > 0);
@@ -103,16 +104,19 @@ pub fn some_record(random: &mut Random, job: &Job) -> Option<Fault> {
     if numbers.is_empty() {
         return None;
     }
-    let number = random.one_of(&numbers);
-    let k = random.below(held(number));
-    match random.below(7) {
-        0 | 1 => misfiled(job, number, k, random.below(8) as u32),
-        2 => repeated(job, number, random.below(k + 1), k),
-        3 => exchanged(job, number, k),
-        4 => byte_of_call(job, number, k, 0, random.bits() as u8),
-        5 => byte_of_call(job, number, k, 3, random.bits() as u8),
-        _ => counted(job, number, held(number) as u8 + 1),
-    }
+    let tried = (0..8).map(|_| {
+        let number = random.one_of(&numbers);
+        let k = random.below(held(number));
+        match random.below(6) {
+            0 => misfiled(job, number, k, random.below(8) as u32),
+            1 => repeated(job, number, random.below(k + 1), k),
+            2 => exchanged(job, number, k),
+            3 => byte_of_call(job, number, k, 0, random.bits() as u8),
+            4 => byte_of_call(job, number, k, 3, random.bits() as u8),
+            _ => counted(job, number, held(number) as u8 + 1),
+        }
+    });
+    tried.flatten().next()
 }
 
 /// The first byte of a record.

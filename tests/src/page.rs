@@ -42,7 +42,8 @@ impl Page {
         page
     }
 
-    /// "Delete closes the gap": the later records move up one place.
+    /// "Delete closes the gap": the later records move up one place, and the
+    /// calls still rise.
     pub fn remove(&self, call: u32) -> Page {
         let mut page = self.clone();
         page.records.retain(|r| r.call != call);
@@ -50,7 +51,7 @@ impl Page {
     }
 
     /// One split: "the split page keeps bit 0, a new page gets bit 1, both
-    /// keep their order". Both are one bit deeper.
+    /// keep their order", so that both rise. Both are one bit deeper.
     pub fn halve(&self) -> (Page, Page) {
         let goes_over = |r: &&Record| key::leading_bit(r.call, self.depth);
         let half = |bit: u32, records: Vec<Record>| Page {

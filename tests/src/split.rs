@@ -20,6 +20,14 @@ pub struct Split {
     pub home: usize,
 }
 
+impl Split {
+    /// What the page that the call is in is to become.
+    pub fn home_page(&self) -> &Page {
+        let home = self.new.iter().find(|(number, _)| *number == self.home);
+        home.map_or(&self.old, |(_, page)| page)
+    }
+}
+
 /// What is split: page `number` of a file of global depth `global` that has
 /// `in_use` pages in use.
 #[derive(Clone, Copy, Debug)]

@@ -1,11 +1,16 @@
 //! The library's page functions against the tests' own, on random pages of each capacity.
 
+mod states;
+
 use chargefile_tests::key::call_with;
+use chargefile_tests::make;
 use chargefile_tests::page::{page_length, Page, Record};
 use chargefile_tests::random::Random;
-use chargefile_tests::seeds::each_seed;
-use chargefile_tests::split::{new_pages_needed, split, Full};
+use chargefile_tests::seeds::{each_seed, few_seeds};
+use chargefile_tests::split::{new_pages_needed, split, Full, Split};
+use states::{calls_to_look_for, every_page, Seen};
 
+const JOBS: u64 = 6_000;
 const PAGES: u64 = 20_000;
 const DEPTH: u32 = 8;
 const MISSING: u64 = 1 << 32;
@@ -13,7 +18,7 @@ const MISSING: u64 = 1 << 32;
 #[link(name = "probe", kind = "static")]
 extern "C" {
     fn probe_find(page: *const u8, len: usize, call: u32) -> u64;
-    fn probe_append(page: *mut u8, len: usize, call: u32, charge: u32);
+    fn probe_add(page: *mut u8, len: usize, call: u32, charge: u32);
     fn probe_remove(page: *mut u8, len: usize, call: u32);
     fn probe_split_count(page: *const u8, len: usize, call: u32) -> usize;
     fn probe_write_old(page: *mut u8, len: usize, call: u32, charge: u32);
@@ -32,14 +37,14 @@ fn find(page: &[u8], call: u32) -> u64 {
     unsafe { probe_find(page.as_ptr(), page.len(), call) }
 }
 
-fn append(page: &mut [u8], r: Record) {
+fn add(page: &mut [u8], r: Record) {
     sound(page);
     assert!(
         4 + 8 * usize::from(page[1]) < page.len(),
         "room for one more"
     );
     // SAFETY: as the lines above
-    unsafe { probe_append(page.as_mut_ptr(), page.len(), r.call, r.charge) }
+    unsafe { probe_add(page.as_mut_ptr(), page.len(), r.call, r.charge) }
 }
 
 fn remove(page: &mut [u8], call: u32) {
@@ -48,28 +53,40 @@ fn remove(page: &mut [u8], call: u32) {
     unsafe { probe_remove(page.as_mut_ptr(), page.len(), call) }
 }
 
-/// A page of the capacity with records that belong in it; at times some of them share many bits.
+/// A page of the capacity with records that belong in it; at times some of them share many bits, and some stand far apart.
 fn random_page(random: &mut Random, capacity: usize, count: usize) -> Page {
     let depth = random.below(DEPTH as usize) as u32;
     let pattern = random.below(1 << depth) as u32;
     let deeper = random.below((DEPTH - depth) as usize + 1) as u32;
     let hot = random.word() & ((1 << deeper) - 1);
+    let variety = random.one_of(&[1 << 12, 1 << 32]);
     let mut page = Page {
         depth,
         pattern,
         records: Vec::new(),
     };
     while page.records.len() < count.min(capacity) {
-        let rest = hot | (random.below(1 << 12) as u32) << deeper;
+        let rest = hot | (random.below(variety) as u32) << deeper;
         let call = call_with(pattern, depth, rest);
         if page.find(call).is_none() {
-            page.records.push(Record {
-                call,
-                charge: random.word(),
-            });
+            let charge = random.word();
+            page = page.add(Record { call, charge });
         }
     }
     page
+}
+
+/// A call that the page does not have: any, or a neighbour of one that it has, so that it can belong at every place.
+fn missing(random: &mut Random, page: &Page) -> u32 {
+    let mut calls = vec![random.word()];
+    calls.extend(page.records.iter().map(|record| record.call));
+    loop {
+        let step = random.one_of(&[0, 1, u32::MAX]);
+        let call = random.one_of(&calls).wrapping_add(step);
+        if page.records.iter().all(|record| record.call != call) {
+            return call;
+        }
+    }
 }
 
 /// Runs a change inside a larger buffer and asks that nothing beside the page's bytes moved.
@@ -87,48 +104,101 @@ fn inside(bytes: &[u8], change: impl Fn(&mut [u8])) -> Vec<u8> {
 }
 
 #[test]
-fn find_append_and_remove() {
-    each_seed(PAGES, |seed| {
+fn find_add_and_remove() {
+    let mut places = [0usize; 8];
+    let whole = each_seed(PAGES, |seed| {
         let random = &mut Random::new(seed, "library pages");
         let capacity = random.between(1, 8);
         let count = random.below(capacity + 1);
         let page = random_page(random, capacity, count);
         let bytes = page.to_bytes(capacity);
         assert_eq!(bytes.len(), page_length(capacity));
-        let other = random.word();
-        for call in page.records.iter().map(|r| r.call).chain([other]) {
+        let others = [(); 4].map(|()| missing(random, &page));
+        for call in page.records.iter().map(|r| r.call).chain(others) {
             let wanted = page.find(call).map_or(MISSING, |r| u64::from(r.charge));
             assert_eq!(find(&bytes, call), wanted);
             let removed = inside(&bytes, |part| remove(part, call));
             assert_eq!(removed, page.remove(call).to_bytes(capacity));
         }
-        if count < capacity {
-            let r = Record {
-                call: other,
-                charge: random.word(),
-            };
-            let appended = inside(&bytes, |part| append(part, r));
-            assert_eq!(appended, page.append(r).to_bytes(capacity));
+        for call in others.into_iter().filter(|_| count < capacity) {
+            let charge = random.word();
+            let r = Record { call, charge };
+            let added = inside(&bytes, |part| add(part, r));
+            assert_eq!(added, page.add(r).to_bytes(capacity));
+            places[page.records.iter().filter(|held| held.call < call).count()] += 1;
         }
     });
+    if whole {
+        println!("records added, by place: {places:?}");
+        assert!(places.iter().all(|times| *times >= 100), "{places:?}");
+    }
+}
+
+/// Every page of every state: what is found is the one record of all that has the call.
+#[test]
+fn find_in_every_state() {
+    let (mut found, mut none) = (0, 0);
+    let whole = few_seeds(JOBS, |seed| {
+        let job = make::small_job(&mut Random::new(seed, "library looking"));
+        every_page(&job, |Seen { page, .. }| {
+            let bytes = page.to_bytes(job.file.capacity);
+            for call in calls_to_look_for(&job, page) {
+                let there = page.records.iter().filter(|r| r.call == call);
+                let charges: Vec<u64> = there.map(|r| u64::from(r.charge)).collect();
+                let told = find(&bytes, call);
+                assert_eq!(
+                    told,
+                    charges.first().copied().unwrap_or(MISSING),
+                    "{call} in {page:?}"
+                );
+                found += usize::from(charges.len() == 1);
+                none += usize::from(charges.is_empty());
+            }
+        });
+    });
+    if whole {
+        println!("found {found}, none {none}");
+        assert!(
+            found >= 50_000 && none >= 50_000,
+            "found {found}, none {none}"
+        );
+    }
+}
+
+/// The library writes the old page and each new one as they are wanted, given the full page as it stands and a split of it.
+fn written_as(wanted: &Split, page: &Page, record: Record) {
+    let capacity = page.records.len();
+    let bytes = page.to_bytes(capacity);
+    let Record { call, charge } = record;
+    // SAFETY, here and for the two below: the page is full and sound, and a new page is needed and possible
+    let count = unsafe { probe_split_count(bytes.as_ptr(), bytes.len(), call) };
+    assert_eq!(count, wanted.new.len());
+    let old = inside(&bytes, |p| unsafe {
+        probe_write_old(p.as_mut_ptr(), p.len(), call, charge)
+    });
+    assert_eq!(old, wanted.old.to_bytes(capacity));
+    for (i, (_, new)) in wanted.new.iter().enumerate() {
+        let written = inside(&bytes, |p| unsafe {
+            probe_write_new(p.as_mut_ptr(), p.len(), i + 1, call, charge)
+        });
+        assert_eq!(written, new.to_bytes(capacity), "new page {}", i + 1);
+    }
 }
 
 #[test]
 fn splits_of_full_pages() {
-    let mut counts = [0usize; 9];
+    let (mut counts, mut before_another) = ([0usize; 9], 0);
     let whole = each_seed(PAGES, |seed| {
         let random = &mut Random::new(seed, "library splits");
         let capacity = random.between(1, 8);
         let page = random_page(random, capacity, capacity);
-        let near = random.one_of(&page.records).call ^ 1 << random.between(page.depth as usize, 31);
-        if page.find(near).is_some() {
+        let call = random.one_of(&page.records).call ^ 1 << random.between(page.depth as usize, 31);
+        if page.find(call).is_some() {
             return;
         }
-        let record = Record {
-            call: near,
-            charge: random.word(),
-        };
-        let Some(n) = new_pages_needed(&page, near, DEPTH) else {
+        let charge = random.word();
+        let record = Record { call, charge };
+        let Some(n) = new_pages_needed(&page, call, DEPTH) else {
             return;
         };
         let full = Full {
@@ -138,24 +208,15 @@ fn splits_of_full_pages() {
             in_use: 1,
         };
         let wanted = split(full, record, capacity);
-        let bytes = page.to_bytes(capacity);
-        // SAFETY, here and for the two below: the page is full and sound, and a new page is needed and possible
-        let count = unsafe { probe_split_count(bytes.as_ptr(), bytes.len(), near) };
-        assert_eq!((count, wanted.new.len()), (n, n));
-        let old = inside(&bytes, |p| unsafe {
-            probe_write_old(p.as_mut_ptr(), p.len(), near, record.charge)
-        });
-        assert_eq!(old, wanted.old.to_bytes(capacity));
-        for (i, (_, new)) in wanted.new.iter().enumerate() {
-            let written = inside(&bytes, |p| unsafe {
-                probe_write_new(p.as_mut_ptr(), p.len(), i + 1, near, record.charge)
-            });
-            assert_eq!(written, new.to_bytes(capacity), "new page {}", i + 1);
-        }
+        assert_eq!(wanted.new.len(), n);
+        written_as(&wanted, &page, record);
         counts[n] += 1;
+        before_another += usize::from(wanted.home_page().records.last() != Some(&record));
     });
     if whole {
         println!("splits by number of new pages: {counts:?}");
+        println!("put before another record: {before_another}");
+        assert!(before_another >= 2_000, "only {before_another}");
         assert!(counts[1..].iter().all(|count| *count > 0), "{counts:?}");
     }
 }

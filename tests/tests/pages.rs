@@ -114,8 +114,7 @@ fn records_come_in_any_order() {
 
 #[test]
 fn the_shared_bits_settle_the_split() {
-    let (mut by_number, mut no_depth, mut largest) = ([0; 9], 0, 0);
-    let mut with_a_higher = 0;
+    let (mut by_number, mut no_depth, mut largest, mut before_another) = ([0; 9], 0, 0, 0);
     let whole = each_seed(PAGES, |seed| {
         let random = &mut Random::new(seed, "splits");
         let global = random.below(9) as u32;
@@ -131,9 +130,8 @@ fn the_shared_bits_settle_the_split() {
             return;
         };
         assert!(!page.records.iter().all(all_alike));
-        let number = random.between(1, in_use);
         let full = Full {
-            number,
+            number: random.between(1, in_use),
             page: &page,
             global,
             in_use,
@@ -143,23 +141,16 @@ fn the_shared_bits_settle_the_split() {
         assert!(needed <= (global - page.depth) as usize, "at most g - l");
         largest = largest.max(needed);
         by_number[needed] += 1;
-        with_a_higher += usize::from(has_higher(&split, record.call));
+        before_another += usize::from(split.home_page().records.last() != Some(&record));
         split_is_right(&full, record, capacity, &split);
     });
     if whole {
         println!("splits by new pages: {by_number:?}, no depth: {no_depth}");
-        println!("with a higher call behind the one inserted: {with_a_higher}");
-        assert!(with_a_higher >= 2_000, "only {with_a_higher}");
+        println!("put before another record: {before_another}");
+        assert!(before_another >= 2_000, "only {before_another}");
         assert_eq!(largest, 8, "g - l with g 8 and l 0");
         assert!(no_depth >= 1_000 && by_number[1..=4].iter().all(|n| *n >= 500));
     }
-}
-
-/// Whether the call's page has a higher call too, so that the call does not go to its end.
-fn has_higher(split: &Split, call: u32) -> bool {
-    let new = split.new.iter().find(|(number, _)| *number == split.home);
-    let home = new.map_or(&split.old, |(_, page)| page);
-    home.records.iter().any(|record| record.call > call)
 }
 
 /// What must hold of a split, without asking how it was worked out.

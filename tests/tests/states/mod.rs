@@ -1,0 +1,48 @@
+//! The states of a run, seen page by page.
+// each test program uses its own part of these
+#![allow(dead_code)]
+
+use chargefile_tests::job::Job;
+use chargefile_tests::page::Page;
+use chargefile_tests::run::Run;
+
+/// A page as it stands, what it was before if a turn has changed it, and whether an entry names it.
+pub struct Seen<'a> {
+    pub page: &'a Page,
+    pub before: Option<Page>,
+    pub named: bool,
+}
+
+/// Deals a job its turns and shows every page of the table, in use or not, as it stands at the start, and then each page that a turn has changed: every
+/// page of every state, since the others have been seen as they are.
+pub fn every_page(job: &Job, mut see: impl FnMut(&Seen)) {
+    let mut seen = vec![None; job.file.pages.len()];
+    let mut look = |run: &Run| {
+        let file = &run.shared.file;
+        for (i, page) in file.pages.iter().enumerate() {
+            if seen[i].as_ref() != Some(page) {
+                let before = seen[i].replace(page.clone());
+                let named = file.directory.contains(&(i + 1));
+                see(&Seen {
+                    page,
+                    before,
+                    named,
+                });
+            }
+        }
+    };
+    let mut run = Run::new(job);
+    look(&run);
+    for &operation in &job.turns {
+        run.deal(operation);
+        look(&run);
+    }
+}
+
+/// Calls to look for in a page: each that it has with its two neighbours, the first and the last there are, and those of the job's operations.
+pub fn calls_to_look_for(job: &Job, page: &Page) -> Vec<u32> {
+    let held = page.records.iter().map(|record| record.call);
+    let near = held.flat_map(|call| [call, call.wrapping_sub(1), call.wrapping_add(1)]);
+    let asked = job.operations.iter().map(|operation| operation.call);
+    near.chain([0, u32::MAX]).chain(asked).collect()
+}
