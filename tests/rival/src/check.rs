@@ -125,7 +125,7 @@ fn all_name(entries: &[[u8; 2]], page: u16) -> bool {
     other == 0
 }
 
-/// A page's records: their calls have these low bits, none comes twice, and behind the last all is zero.
+/// A page's records: their calls have these low bits, each is above the one before it, and behind the last all is zero.
 #[inline(always)]
 fn records_sound<const N: usize>(page: &[u8; N], local: u32, low: u32) -> bool {
     let (mut fault, mut behind) = (0, 0);
@@ -134,10 +134,8 @@ fn records_sound<const N: usize>(page: &[u8; N], local: u32, low: u32) -> bool {
         if i < page[1] as usize {
             let call = record as u32;
             fault |= low_bits(call ^ low, local);
-            let twice = (0..i).fold(false, |twice, k| {
-                twice | (page::record(page, k) as u32 == call)
-            });
-            fault |= twice as u32;
+            let rises = i == 0 || call > page::record(page, i - 1) as u32;
+            fault |= !rises as u32;
         } else {
             behind |= record;
         }

@@ -124,7 +124,8 @@ fn record(job: &[u8], header: &Header) -> Option<usize> {
             let pseudo_key = call(i).reverse_bits() as u64;
             pseudo_key >> (32 - page[0] as u32) == two_at(page, 2) as u64
         };
-        let wrong = |i: &usize| !begins(*i) || (0..*i).any(|k| call(k) == call(*i));
+        let rises = |i: usize| i == 0 || call(i - 1) < call(i);
+        let wrong = |i: &usize| !begins(*i) || !rises(*i);
         if let Some(i) = (0..page[1] as usize).find(wrong) {
             return Some(page_place(header, x) + 4 + 8 * i);
         }

@@ -98,7 +98,7 @@ impl<const N: usize> Shared<'_, '_, N> {
             DELETED
         } else {
             operation.row.charge = operation.charge();
-            page::append(page, operation.record());
+            page::insert(page, operation.record());
             STORED
         };
         self.settle(operation, code, operation.now);

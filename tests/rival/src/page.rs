@@ -1,4 +1,5 @@
 //! A page's bytes: local depth, count, pattern, records. A record is taken as one number of 8 bytes, with the call in its low half.
+//! Records stand by rising call.
 
 /// How many records a page of this length takes.
 #[inline(always)]
@@ -21,7 +22,8 @@ pub fn charge_of(record: u64) -> u32 {
     (record >> 32) as u32
 }
 
-/// Where the call's record stands. All records are looked at, those not in use too, since that needs no jump; a bit for each.
+/// Where the call's record stands. All records are looked at, also behind a higher call and those not in use, since to stop there would
+/// need a jump, and at most seven are spared; a bit for each.
 #[inline(always)]
 pub fn find<const N: usize>(page: &[u8; N], call: u32) -> Option<usize> {
     let mut found = 0u32;
@@ -42,11 +44,29 @@ pub fn shared_bits<const N: usize>(page: &[u8; N], call: u32) -> u32 {
     differ.trailing_zeros()
 }
 
-/// Puts a record behind the last.
+/// How many records have a call below this one: so many stand before it, or would if it is not there. A bit for each, as in `find`; the
+/// bits that are set come first, since calls rise.
 #[inline(always)]
-pub fn append<const N: usize>(page: &mut [u8; N], record: u64) {
-    let count = page[1] as usize;
-    put_record(page, count, record);
+fn below<const N: usize>(page: &[u8; N], call: u32) -> usize {
+    let mut below = 0u32;
+    for i in 0..room::<N>() {
+        below |= (((record(page, i) as u32) < call) as u32) << i;
+    }
+    below &= (1 << (page[1] & 15)) - 1;
+    below.trailing_ones() as usize
+}
+
+/// Puts a record before the first with a higher call: those move up by one, into the first place that is not in use.
+#[inline(always)]
+pub fn insert<const N: usize>(page: &mut [u8; N], own: u64) {
+    let at = below(page, own as u32);
+    let mut before = 0;
+    for i in 0..room::<N>() {
+        let here = record(page, i);
+        let moved = if i == at { own } else { before };
+        put_record(page, i, if i < at { here } else { moved });
+        before = here;
+    }
     page[1] += 1;
 }
 
