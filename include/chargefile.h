@@ -79,7 +79,9 @@ extern "C" {
 #define CHARGEFILE_AT_TOTAL 28u
 
 /* ---- Where the fields of a page stand, counted in bytes from the page's start. Refusal 12 has the
- * depth or the pattern for its place. Records follow, behind CHARGEFILE_PAGE_HEAD_SIZE bytes. */
+ * depth or the pattern for its place. Records follow, behind CHARGEFILE_PAGE_HEAD_SIZE bytes, by
+ * rising call: each call is above the one before it in the page. Compare calls as numbers, as
+ * chargefile_four reads them, and not byte by byte. Behind the last record all bytes are zero. */
 
 #define CHARGEFILE_PAGE_AT_DEPTH 0u   /* 1 byte: l */
 #define CHARGEFILE_PAGE_AT_COUNT 1u   /* 1 byte: how many records */
@@ -183,7 +185,8 @@ static inline size_t chargefile_result_size(const uint8_t *job, size_t job_lengt
  *   13   a byte behind its last record is not zero, or any byte of   the byte
  *        a page that is not in use
  *    7   an entry's page does not own it, or another page does too   the entry
- *    8   a call is in the wrong page, or twice in its page           the (later) record
+ *    8   a call is in the wrong page, or is not above the call of    the record
+ *        the record before it in the page
  *    9   a kind is not 1 to 3, or a spare byte is not zero, or the   the operation
  *        charge of a search or a delete is not zero
  *   10   a turn names no operation of the job                        the turn
