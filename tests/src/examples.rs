@@ -38,7 +38,9 @@ pub fn examples() -> Vec<Example> {
         example("hotel", hotel()),
         example("school", school()),
         example("stale", stale()),
+        example("late", late()),
         example("misfiled", misfiled()),
+        example("exchanged", exchanged()),
         example("wide", wide()),
         // Page 1 stands at 36, and its count one behind: two records, not three.
         edited("leftover", leftover(), Some((37, 2))),
@@ -160,15 +162,39 @@ fn stale() -> Job {
     }
 }
 
+/// Slips that come in late: their calls are below some that are in the file, and
+/// go before them. One after another; insert 6 splits page 1, which is full.
+fn late() -> Job {
+    let operations = vec![insert(2, 30), insert(6, 45), insert(7, 20), insert(3, 60)];
+    let turns = [vec![0; 6], vec![1; 9], vec![2; 6], vec![3; 6]];
+    Job {
+        file: filled(even_file(1, 3, 2, 0), &[(5, 15), (8, 80)]),
+        operations,
+        turns: turns.concat(),
+    }
+}
+
 /// Call 6 stands in page 2, which takes the odd calls.
 fn misfiled() -> Job {
     let mut file = filled(even_file(1, 3, 2, 1), &[(2, 50), (4, 90), (1, 30)]);
     file.page_mut(2)
         .records
-        .extend([record(6, 15), record(3, 70)]);
+        .extend([record(6, 15), record(7, 70)]);
     Job {
         file,
         operations: vec![search(6)],
+        turns: rounds(&[0], 3),
+    }
+}
+
+/// Call 256 stands before call 254. Its bytes are lower, the first ones first,
+/// but not the number.
+fn exchanged() -> Job {
+    let mut file = filled(even_file(1, 3, 2, 1), &[(253, 30), (255, 70)]);
+    file.page_mut(1).records = vec![record(256, 15), record(254, 90)];
+    Job {
+        file,
+        operations: vec![search(254)],
         turns: rounds(&[0], 3),
     }
 }

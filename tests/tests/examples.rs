@@ -160,6 +160,30 @@ fn misfiled_names_the_record() {
 }
 
 #[test]
+fn late_calls_go_before_the_higher_ones() {
+    let run = dealt(&example("late"));
+    assert_eq!(codes(&run), [Code::Stored; 4]);
+    assert_eq!(run.shared.tally.splits, 1, "insert 6 splits page 1");
+    let calls = |number: usize| {
+        let records = &run.shared.file.page(number).records;
+        Vec::from_iter(records.iter().map(|record| record.call))
+    };
+    assert_eq!((calls(1), calls(2)), (vec![2, 6, 8], vec![3, 5, 7]));
+}
+
+#[test]
+fn exchanged_names_the_second() {
+    let example = named("exchanged");
+    let job = example.bytes();
+    assert_eq!(check(&job), Some((8, 48)));
+    assert_eq!(job[40..44], [0, 1, 0, 0], "call 256");
+    assert_eq!(job[48..52], [254, 0, 0, 0], "call 254");
+    let mut mended = example.job;
+    mended.file.page_mut(1).records.reverse();
+    assert_eq!(check(&mended.to_bytes()), None);
+}
+
+#[test]
 fn wide_names_the_pattern() {
     let example = named("wide");
     let job = example.bytes();
