@@ -6,8 +6,10 @@ void header_tests(void);     /* the numbers of chargefile.h are the document's *
 void limit_tests(void);      /* a count at its limit, and one past it */
 void refusal_tests(void);    /* every row of the refusal table but 11 */
 void page_fault_tests(void); /* rows 12, 6 and 13: their bytes, and their order */
+void record_tests(void);     /* row 8: calls that belong in their page, and rise */
 void output_tests(void);     /* row 11, and what is lent */
 void kept_tests(void);       /* a refused job has written nothing, whatever its refusal */
 void result_tests(void);     /* what a run writes */
+void rising_tests(void);     /* where a run puts a record, and where it finds one */
 
 #endif

@@ -8,8 +8,10 @@ int main(void)
     limit_tests();
     refusal_tests();
     page_fault_tests();
+    record_tests();
     output_tests();
     kept_tests();
     result_tests();
+    rising_tests();
     return all_counted();
 }

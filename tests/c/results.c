@@ -1,71 +1,9 @@
-/*
- * What a run writes. Job E and the marked items (C) to (H) of the document, read off the result's
- * bytes by the offsets in its header.
- */
-#include <string.h>
-
+/* What a run writes: job E and the marked items (C) to (H) of the document. */
 #include "groups.h"
 #include "harness.h"
-#include "lent.h"
+#include "told.h"
 
 static job j;
-
-typedef struct answer {
-    unsigned code, turns;
-    uint32_t charge;
-} answer;
-
-static unsigned two_at(unsigned place)
-{
-    return chargefile_two(set.result + place);
-}
-
-static uint32_t four_at(unsigned place)
-{
-    return chargefile_four(set.result + place);
-}
-
-/* Answer `operation` of the result, its spare byte zero. */
-static void expect_answer(unsigned operation, answer wanted)
-{
-    unsigned at = four_at(CHARGEFILE_RESULT_AT_ANSWERS_OFFSET) + 8 * operation;
-    EXPECT_EQUAL(set.result[at], wanted.code);
-    EXPECT_EQUAL(set.result[at + 1], 0);
-    EXPECT_EQUAL(two_at(at + 2), wanted.turns);
-    EXPECT_EQUAL(four_at(at + 4), wanted.charge);
-}
-
-static void expect_line(unsigned line, unsigned moment, unsigned operation)
-{
-    unsigned at = four_at(CHARGEFILE_RESULT_AT_LOG_OFFSET) + 4 * line;
-    EXPECT_EQUAL(two_at(at), moment);
-    EXPECT_EQUAL(two_at(at + 2), operation);
-}
-
-/* The header: offsets "in that order with no gap", and 0 where there is no charge file. */
-static void expect_header(unsigned operations, unsigned lines, unsigned under_way, size_t file)
-{
-    unsigned log = 24 + 8 * operations;
-    unsigned end = log + 4 * lines;
-    EXPECT_EQUAL(two_at(CHARGEFILE_RESULT_AT_VERSION), CHARGEFILE_RESULT_VERSION);
-    EXPECT_EQUAL(two_at(CHARGEFILE_RESULT_AT_OPERATIONS), operations);
-    EXPECT_EQUAL(two_at(CHARGEFILE_RESULT_AT_LINES), lines);
-    EXPECT_EQUAL(two_at(CHARGEFILE_RESULT_AT_UNDER_WAY), under_way);
-    EXPECT_EQUAL(four_at(CHARGEFILE_RESULT_AT_ANSWERS_OFFSET), 24);
-    EXPECT_EQUAL(four_at(CHARGEFILE_RESULT_AT_LOG_OFFSET), log);
-    EXPECT_EQUAL(four_at(CHARGEFILE_RESULT_AT_FILE_OFFSET), under_way > 0 ? 0 : end);
-    EXPECT_EQUAL(four_at(CHARGEFILE_RESULT_AT_TOTAL), end + file);
-}
-
-/* The charge file of the result is this one, to the byte, and is accepted as a job. */
-static void expect_file(const job *wanted)
-{
-    const uint8_t *file = set.result + four_at(CHARGEFILE_RESULT_AT_FILE_OFFSET);
-    EXPECT_EQUAL(four_at(CHARGEFILE_RESULT_AT_TOTAL) - four_at(CHARGEFILE_RESULT_AT_FILE_OFFSET),
-                 wanted->length);
-    EXPECT(memcmp(file, wanted->bytes, wanted->length) == 0);
-    expect_done(chargefile_check(file, wanted->length), 0);
-}
 
 static void run_job_e(unsigned turns, size_t total)
 {
