@@ -14,9 +14,20 @@ static uint32_t four_at(unsigned place)
     return chargefile_four(set.result + place);
 }
 
+/* Where `length` bytes of a section begin, by its offset in the header. Where nothing was written
+ * an offset leads anywhere: that has failed, and the buffer's start is looked at instead. */
+static unsigned section(unsigned place, size_t length)
+{
+    uint32_t at = four_at(place);
+    int within = at <= RESULT_ROOM && length <= RESULT_ROOM - at;
+    EXPECT(within);
+    return within ? at : 0;
+}
+
 void expect_answer(unsigned operation, answer wanted)
 {
-    unsigned at = four_at(CHARGEFILE_RESULT_AT_ANSWERS_OFFSET) + 8 * operation;
+    unsigned before = 8 * operation;
+    unsigned at = section(CHARGEFILE_RESULT_AT_ANSWERS_OFFSET, before + 8) + before;
     EXPECT_EQUAL(set.result[at], wanted.code);
     EXPECT_EQUAL(set.result[at + 1], 0);
     EXPECT_EQUAL(two_at(at + 2), wanted.turns);
@@ -25,7 +36,8 @@ void expect_answer(unsigned operation, answer wanted)
 
 void expect_line(unsigned line, unsigned moment, unsigned operation)
 {
-    unsigned at = four_at(CHARGEFILE_RESULT_AT_LOG_OFFSET) + 4 * line;
+    unsigned before = 4 * line;
+    unsigned at = section(CHARGEFILE_RESULT_AT_LOG_OFFSET, before + 4) + before;
     EXPECT_EQUAL(two_at(at), moment);
     EXPECT_EQUAL(two_at(at + 2), operation);
 }
@@ -46,9 +58,9 @@ void expect_header(unsigned operations, unsigned lines, unsigned under_way, size
 
 void expect_file(const job *wanted)
 {
-    const uint8_t *file = set.result + four_at(CHARGEFILE_RESULT_AT_FILE_OFFSET);
-    EXPECT_EQUAL(four_at(CHARGEFILE_RESULT_AT_TOTAL) - four_at(CHARGEFILE_RESULT_AT_FILE_OFFSET),
-                 wanted->length);
+    unsigned at = section(CHARGEFILE_RESULT_AT_FILE_OFFSET, wanted->length);
+    const uint8_t *file = set.result + at;
+    EXPECT_EQUAL(four_at(CHARGEFILE_RESULT_AT_TOTAL) - at, wanted->length);
     EXPECT(memcmp(file, wanted->bytes, wanted->length) == 0);
     expect_done(chargefile_check(file, wanted->length), 0);
 }
