@@ -44,29 +44,16 @@ pub fn shared_bits<const N: usize>(page: &[u8; N], call: u32) -> u32 {
     differ.trailing_zeros()
 }
 
-/// How many records have a call below this one: so many stand before it, or would if it is not there. A bit for each, as in `find`; the
-/// bits that are set come first, since calls rise.
-#[inline(always)]
-fn below<const N: usize>(page: &[u8; N], call: u32) -> usize {
-    let mut below = 0u32;
-    for i in 0..room::<N>() {
-        below |= (((record(page, i) as u32) < call) as u32) << i;
-    }
-    below &= (1 << (page[1] & 15)) - 1;
-    below.trailing_ones() as usize
-}
-
-/// Puts a record before the first with a higher call: those move up by one, into the first place that is not in use.
+/// Puts a record before the first with a higher call; the page has room. The higher ones move up from the last on: calls run on one by one, so
+/// there are mostly none.
 #[inline(always)]
 pub fn insert<const N: usize>(page: &mut [u8; N], own: u64) {
-    let at = below(page, own as u32);
-    let mut before = 0;
-    for i in 0..room::<N>() {
-        let here = record(page, i);
-        let moved = if i == at { own } else { before };
-        put_record(page, i, if i < at { here } else { moved });
-        before = here;
+    let mut at = page[1] as usize & 7;
+    while at > 0 && record(page, at - 1) as u32 > own as u32 {
+        put_record(page, at, record(page, at - 1));
+        at -= 1;
     }
+    put_record(page, at, own);
     page[1] += 1;
 }
 

@@ -4,7 +4,7 @@
 //! Each split cuts the page that would take the call, by the next bit: the page that is split keeps bit 0, a new page gets bit 1.
 
 use crate::key::{low_bits, reversed};
-use crate::page::{insert, put_record, record, room};
+use crate::page::{put_record, record, room};
 
 /// A piece: the calls whose low `depth` bits are `low`. `own`: it is the page that the call goes to.
 #[derive(Clone, Copy)]
@@ -81,7 +81,8 @@ impl Piece {
     }
 
     /// The piece's page: those records of the full old page that belong to it, in their order, and the insert's own at its place among
-    /// them where it goes there. Each record is written at the end and counted only if it stays, which needs no jump.
+    /// them where it goes there. Each record is written at the end and counted only if it stays, which needs no jump; the insert's own goes in
+    /// as in `page::insert`.
     #[inline(always)]
     pub fn cut<const N: usize>(self, old: &[u8; N], own: u64) -> [u8; N] {
         let mut stay = [0u64; 16];
@@ -91,16 +92,19 @@ impl Piece {
             stay[count & 15] = record;
             count += (low_bits(record as u32, self.depth) == self.low) as usize;
         }
-        stay[count & 15] = 0;
+        let mut at = count;
+        while self.own && at > 0 && stay[(at - 1) & 15] as u32 > own as u32 {
+            stay[at & 15] = stay[(at - 1) & 15];
+            at -= 1;
+        }
+        stay[at & 15] = if self.own { own } else { 0 };
+        count += self.own as usize;
         let mut page = [0; N];
         page[0] = self.depth as u8;
         page[1] = count as u8;
         page[2] = reversed(self.low as u8, self.depth);
         for (i, record) in stay.into_iter().take(room::<N>()).enumerate() {
             put_record(&mut page, i, record);
-        }
-        if self.own {
-            insert(&mut page, own);
         }
         page
     }
