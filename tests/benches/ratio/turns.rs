@@ -109,10 +109,11 @@ fn deletes() -> Job {
     without_turns(Even::large(8, 8).file(), (0..256).map(delete).collect())
 }
 
-/// 32 inserts, each into a full page of its own, which is split in halves: 4 of its 8 entries change. Half of the calls stay in the old page.
+/// 32 inserts, each into a full page of its own, which is split in halves: 4 of its 8 entries change. Half of the calls stay in the old page. Each goes
+/// behind 0 to 4 of the 4 records of its half.
 fn splits() -> Job {
-    let file = Even::large(5, 8).file_with(|i| i & 1 | i << 4);
-    let insert = |p| operation(Kind::Insert, call_with(p, 5, p & 1 | 1 << 20));
+    let file = Even::large(5, 8).file_with(|i| i & 1 | 1 << 4 | (i / 2) << 5);
+    let insert = |p| operation(Kind::Insert, call_with(p, 5, p & 1 | (p / 2 % 5) << 5));
     without_turns(file, (0..32).map(insert).collect())
 }
 
