@@ -5,7 +5,8 @@
 //! `room`, what is lent, as text (without it, enough); `out`, the whole result,
 //! or in its place `refused`, number and place as text; `print`, what
 //! `chargelog` prints, which lends enough itself. Those in the folder `printed`
-//! came with the text alone.
+//! came with the text alone; those in `earlier` came with an earlier request,
+//! whose number they have, and still hold.
 
 use std::collections::{BTreeMap, BTreeSet};
 use std::ffi::OsStr;
@@ -17,7 +18,7 @@ use crate::check::WORKING_MEMORY;
 use crate::run::Outcome;
 
 /// How many there are: a test of no vectors would always pass.
-const STORED: usize = 386;
+const STORED: usize = 455;
 
 /// Enough for every job: bytes of the result buffer, rows, and bytes of other
 /// working memory.

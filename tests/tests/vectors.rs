@@ -62,6 +62,7 @@ fn the_vectors_are_all_there() {
         ("00-base", 176),
         ("01-page-faults", 61),
         ("10-rising", 45),
+        ("earlier", 69),
         ("printed", 104),
     ];
     let wanted = wanted.map(|(folder, vectors)| (folder.to_string(), vectors));

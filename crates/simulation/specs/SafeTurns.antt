@@ -58,7 +58,7 @@ module _ (ops : List Op) (s : State) (i : ℕ) (w : List ℕ) (st : Steady ops s
       record {
         page = readable x n;
         stale = λ c.
-            rw (page-used ops s w st h x n, named-is ops s w st h op, look-find (pageAt f x .records) (op .call) (st .tidy .pages x .rising))
+            rw (page-used ops s w st h x n, named-is ops s w st h op, look-find (pageAt f x .records) (op .call) (st .tidy .pages x .inOrder))
             (λ q z.
             omega
             (arith, found-slot ops s i x c (turnIn w) (st .good) (st .tidy) (st .rising) (st .followed) (h .turns) e q z .1, st .good .fit .depth));

@@ -75,7 +75,7 @@ module _ (ops : List Op) (s : State) (i : ℕ) (w : List ℕ) (st : Steady ops s
 
   pub on-read : (x : ℕ) → stageOf s i ≡ ReadPage x → PageNo (s .file) x → Does (turn s op (ReadPage x)) (turned (ReadPage x))
   unfolding turn memTurn
-  on-read x e n = rw (page-used ops s w st h x n, look-find (pageAt (s .file) x .records) (op .call) (st .tidy .pages x .rising)) (on-looked x _ n e refl)
+  on-read x e n = rw (page-used ops s w st h x n, look-find (pageAt (s .file) x .records) (op .call) (st .tidy .pages x .inOrder)) (on-looked x _ n e refl)
 
   pub on-reread : (x t : ℕ) → Does (turn s op (Reread x t)) (turned (Reread x t))
   unfolding turn memTurn reread memReread

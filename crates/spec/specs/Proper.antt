@@ -46,7 +46,7 @@ pub record PageOk (g c : ℕ) (q : Page) : Type 0 where
   pub small : q .pattern < 2 ^ q .depth
   pub room : length (q .records) ≤ c
   pub homed : Each (λ a. In q (a .call)) (q .records)
-  pub rising : CallsRise (q .records)
+  pub inOrder : CallsRise (q .records)
 
 pub record FileOk (f : File) : Type 0 where
   pub fit : Fit f

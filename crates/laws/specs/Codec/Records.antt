@@ -50,14 +50,14 @@ last-above rs h k l = let e : suc k - 1 ≡ k = omega arith in rw e at (h (suc k
 -- the records of a page that row 8 does not refuse
 pub record RecordsOk (p : Page) : Type 0 where
   pub homed : Each (λ a. In p (a .call)) (p .records)
-  pub rising : CallsRise (p .records)
+  pub inOrder : CallsRise (p .records)
 
 page-records : (place : ℕ) (p : Page) → firstOf (recordFault place p) 0 (p .records) ≡ none ↔ RecordsOk p
 unfolding recordFault badRecord notAbove
 page-records place p =
     simp (first-none (recordFault place p) (p .records) noRecord, failed) (
-      λ h. record { homed = each-places _ noRecord .1 (λ k l. h k l .0); rising = above-rise _ (last-above (p .records) (λ k l. h k l .1)) },
-      λ ok k l. (each-places _ noRecord .0 (ok .homed) k l, above-last (ok .rising) k l),
+      λ h. record { homed = each-places _ noRecord .1 (λ k l. h k l .0); inOrder = above-rise _ (last-above (p .records) (λ k l. h k l .1)) },
+      λ ok k l. (each-places _ noRecord .0 (ok .homed) k l, above-last (ok .inOrder) k l),
     )
 
 -- row 8

@@ -47,7 +47,7 @@ held-twice : (n : ℕ) (f : File) (j : ℕ) → ((x : ℕ) → PageOk (f .g) (f 
 unfolding heldFrom ofIndex
 held-twice zero f j ok = empty
 held-twice (suc n) f j ok =
-    join-twice _ _ (filter-twice (hasIndex (f .g) j) _ (rise-once _ (ok (entryAt f j) .rising))) (held-twice n f (suc j) ok)
+    join-twice _ _ (filter-twice (hasIndex (f .g) j) _ (rise-once _ (ok (entryAt f j) .inOrder))) (held-twice n f (suc j) ok)
     (λ k.
     by-cases (ℕ-discrete (index (f .g) k) j) (λ e. inr (held-none n f (suc j) k (omega arith))) (λ e. inl (of-other (f .g) j k _ e)))
 
