@@ -110,6 +110,22 @@ void put_page(job *j, unsigned page, unsigned depth, unsigned pattern, const rec
     }
 }
 
+uint32_t charge_of(uint32_t call)
+{
+    return ~call;
+}
+
+void put_calls(job *j, unsigned page, unsigned depth, unsigned pattern, const uint32_t *calls,
+               unsigned count)
+{
+    record held[8];
+    for (unsigned r = 0; r < count; r++) {
+        held[r].call = calls[r];
+        held[r].charge = charge_of(calls[r]);
+    }
+    put_page(j, page, depth, pattern, held, count);
+}
+
 void put_operation(job *j, unsigned operation, unsigned kind, uint32_t call, uint32_t charge)
 {
     uint8_t *at = j->bytes + layout_of(counts_of(j)).operations + 10 * operation;

@@ -48,6 +48,14 @@ void make_job(job *j, counts c);
 void put_entry(job *j, unsigned entry, unsigned page);
 void put_page(job *j, unsigned page, unsigned depth, unsigned pattern, const record *records,
               unsigned count);
+
+/* Every call has a charge of its own, and charges fall where calls rise, so that no charge lends its
+ * order to a call. */
+uint32_t charge_of(uint32_t call);
+
+/* A page with these calls, each with its own charge. */
+void put_calls(job *j, unsigned page, unsigned depth, unsigned pattern, const uint32_t *calls,
+               unsigned count);
 void put_operation(job *j, unsigned operation, unsigned kind, uint32_t call, uint32_t charge);
 void put_turn(job *j, unsigned turn, unsigned operation);
 

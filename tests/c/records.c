@@ -72,23 +72,12 @@ static const couple COUPLES[] = {
 
 static job j;
 
-/* Charges fall where calls rise, so that no charge lends its order to a call. */
-static void put_calls(unsigned number, unsigned local, const uint32_t *calls, unsigned count)
-{
-    record held[8];
-    for (unsigned r = 0; r < count; r++) {
-        held[r].call = calls[r];
-        held[r].charge = 900 - 100 * r;
-    }
-    put_page(&j, number, local, number - 1, held, count);
-}
-
 static void make_pages(const uint32_t *even, unsigned evens, const uint32_t *odd, unsigned odds)
 {
     counts c = {1, 4, 2, 2, 1, 3};
     make_job(&j, c);
-    put_calls(1, 1, even, evens);
-    put_calls(2, 1, odd, odds);
+    put_calls(&j, 1, 1, 0, even, evens);
+    put_calls(&j, 2, 1, 1, odd, odds);
 }
 
 static void expect_told(unsigned page, unsigned told)
@@ -146,7 +135,7 @@ static void every_exchange(void)
             calls[a] = 10 * (b + 1);
             calls[b] = 10 * (a + 1);
             make_job(&j, c);
-            put_calls(1, 0, calls, 8);
+            put_calls(&j, 1, 0, 0, calls, 8);
             expect_told(34, a + 1);
         }
     }
@@ -161,7 +150,7 @@ static void every_repeated_call(void)
             uint32_t calls[8] = {10, 20, 30, 40, 50, 60, 70, 80};
             calls[b] = calls[a];
             make_job(&j, c);
-            put_calls(1, 0, calls, 8);
+            put_calls(&j, 1, 0, 0, calls, 8);
             expect_told(34, b);
         }
     }

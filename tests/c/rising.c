@@ -73,27 +73,16 @@ static const split SPLITS[] = {
 
 static job j, wanted;
 
-/* Every call has a charge of its own, and charges fall where calls rise. */
-static uint32_t charge_of(uint32_t call)
+static void put_list(job *into, unsigned number, unsigned local, unsigned pattern, const calls *c)
 {
-    return ~call;
-}
-
-static void put_calls(job *into, unsigned number, unsigned local, unsigned pattern, const calls *c)
-{
-    record held[4];
-    for (unsigned r = 0; r < c->count; r++) {
-        held[r].call = c->list[r];
-        held[r].charge = charge_of(c->list[r]);
-    }
-    put_page(into, number, local, pattern, held, c->count);
+    put_calls(into, number, local, pattern, c->list, c->count);
 }
 
 /* A job with one page in use, of depth 0, and one operation that gets 20 turns. */
 static void make_one(counts c, const calls *held, unsigned kind, uint32_t call)
 {
     make_job(&j, c);
-    put_calls(&j, 1, 0, 0, held);
+    put_list(&j, 1, 0, 0, held);
     put_operation(&j, 0, kind, call, kind == CHARGEFILE_INSERT ? charge_of(call) : 0);
 }
 
@@ -107,7 +96,7 @@ static void expect_change(const change *of)
     expect_answer(0, (answer){code, 6, charge_of(of->call)});
     expect_line(0, 4, 0);
     make_job(&wanted, file);
-    put_calls(&wanted, 1, 0, 0, &of->after);
+    put_list(&wanted, 1, 0, 0, &of->after);
     expect_file(&wanted);
 }
 
@@ -121,8 +110,8 @@ static void expect_split(const split *of)
     expect_answer(0, (answer){CHARGEFILE_STORED, 4 + 1 + 1 + 3, charge_of(of->call)});
     expect_line(0, of->call % 2 == 1 ? 5 : 7, 0);
     make_job(&wanted, file);
-    put_calls(&wanted, 1, 1, 0, &of->even);
-    put_calls(&wanted, 2, 1, 1, &of->odd);
+    put_list(&wanted, 1, 1, 0, &of->even);
+    put_list(&wanted, 2, 1, 1, &of->odd);
     expect_file(&wanted);
 }
 
@@ -142,13 +131,13 @@ static void two_splits(void)
     put_entry(&wanted, 2, 2);
     put_entry(&wanted, 3, 3);
     put_page(&wanted, 1, 1, 0, NULL, 0);
-    put_calls(&wanted, 2, 2, 2, &moved);
-    put_calls(&wanted, 3, 2, 3, &parted);
+    put_list(&wanted, 2, 2, 2, &moved);
+    put_list(&wanted, 3, 2, 3, &parted);
     expect_file(&wanted);
 }
 
 /* One operation on a full page with calls 10 to 40, and its answer. */
-static void expect_told(unsigned kind, uint32_t call, unsigned code, unsigned turns)
+static void expect_code(unsigned kind, uint32_t call, unsigned code, unsigned turns)
 {
     static const calls held = {4, {10, 20, 30, 40}};
     counts c = {0, 4, 1, 1, 1, 20};
@@ -163,11 +152,11 @@ static void every_place(void)
 {
     for (uint32_t call = 5; call <= 45; call += 5) {
         int there = call % 10 == 0;
-        expect_told(CHARGEFILE_SEARCH, call, there ? CHARGEFILE_FOUND : CHARGEFILE_NONE,
+        expect_code(CHARGEFILE_SEARCH, call, there ? CHARGEFILE_FOUND : CHARGEFILE_NONE,
                     there ? 2 : 3);
-        expect_told(CHARGEFILE_INSERT, call,
+        expect_code(CHARGEFILE_INSERT, call,
                     there ? CHARGEFILE_ALREADY_THERE : CHARGEFILE_NO_DEPTH, 5);
-        expect_told(CHARGEFILE_DELETE, call, there ? CHARGEFILE_DELETED : CHARGEFILE_ABSENT,
+        expect_code(CHARGEFILE_DELETE, call, there ? CHARGEFILE_DELETED : CHARGEFILE_ABSENT,
                     there ? 6 : 5);
     }
 }
@@ -177,19 +166,31 @@ static void every_place(void)
 static void one_after_another(void)
 {
     static const calls none = {0, {0}}, left = {3, {1, 3, 4}};
-    static const unsigned kinds[7] = {2, 2, 2, 2, 3, 3, 2};
-    static const uint32_t list[7] = {4, 3, 2, 1, 3, 2, 3};
+    static const struct {
+        unsigned kind;
+        uint32_t call;
+    } done[7] = {
+        {CHARGEFILE_INSERT, 4}, {CHARGEFILE_INSERT, 3}, {CHARGEFILE_INSERT, 2},
+        {CHARGEFILE_INSERT, 1}, {CHARGEFILE_DELETE, 3}, {CHARGEFILE_DELETE, 2},
+        {CHARGEFILE_INSERT, 3},
+    };
     counts c = {0, 4, 1, 1, 7, 42}, file = {0, 4, 1, 1, 0, 0};
     make_one(c, &none, CHARGEFILE_SEARCH, 0);
     for (unsigned i = 0; i < 7; i++) {
-        put_operation(&j, i, kinds[i], list[i], kinds[i] == 2 ? charge_of(list[i]) : 0);
+        int inserts = done[i].kind == CHARGEFILE_INSERT;
+        put_operation(&j, i, done[i].kind, done[i].call, inserts ? charge_of(done[i].call) : 0);
     }
     for (unsigned t = 0; t < 42; t++) {
         put_turn(&j, t, t / 6);
     }
     expect_run(&j, 0);
+    for (unsigned i = 0; i < 7; i++) {
+        int inserts = done[i].kind == CHARGEFILE_INSERT;
+        unsigned code = inserts ? CHARGEFILE_STORED : CHARGEFILE_DELETED;
+        expect_answer(i, (answer){code, 6, charge_of(done[i].call)});
+    }
     make_job(&wanted, file);
-    put_calls(&wanted, 1, 0, 0, &left);
+    put_list(&wanted, 1, 0, 0, &left);
     expect_file(&wanted);
 }
 

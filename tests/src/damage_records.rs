@@ -1,10 +1,10 @@
 //! Faults of one record of a sound job: row 8.
 //!
-//! A record is met by itself if its pseudo key does not begin with the pattern,
-//! and by the one before it if it is not above that one. In the second case the
-//! fault writes the calls of both, the one that keeps its value too: another
-//! fault that changes it could undo this one, and so the two count as
-//! overlapping.
+//! A record is told for its own call, where its pseudo key does not begin with
+//! the pattern, or for the one before it, where it is not above that one. In the
+//! second case the fault writes the calls of both, the one that keeps its value
+//! too: another fault that changes it could undo this one, and so the two count
+//! as overlapping.
 //!
 //! Records are counted from 0.
 
@@ -19,7 +19,7 @@ use crate::random::Random;
 /// if that one is no longer above it; `None` if the page stays sound.
 pub fn call(job: &Job, number: usize, k: usize, call: u32) -> Option<Fault> {
     let page = job.file.page(number);
-    let mut calls: Vec<u32> = page.records.iter().map(|record| record.call).collect();
+    let mut calls = page.calls();
     calls[k] = call;
     let begins = key::index(call, page.depth) == page.pattern as usize;
     let falls = |at: usize| at > 0 && at < calls.len() && calls[at] <= calls[at - 1];

@@ -26,6 +26,11 @@ pub fn page_length(capacity: usize) -> usize {
 }
 
 impl Page {
+    /// Its calls, in its order.
+    pub fn calls(&self) -> Vec<u32> {
+        self.records.iter().map(|record| record.call).collect()
+    }
+
     /// The record of a call, if the page has one. The calls rise, so looking
     /// for it "may then stop at the first higher number".
     pub fn find(&self, call: u32) -> Option<Record> {
@@ -42,8 +47,7 @@ impl Page {
         page
     }
 
-    /// "Delete closes the gap": the later records move up one place, and the
-    /// calls still rise.
+    /// "Delete closes the gap", and the calls still rise.
     pub fn remove(&self, call: u32) -> Page {
         let mut page = self.clone();
         page.records.retain(|r| r.call != call);

@@ -164,10 +164,7 @@ fn late_calls_go_before_the_higher_ones() {
     let run = dealt(&example("late"));
     assert_eq!(codes(&run), [Code::Stored; 4]);
     assert_eq!(run.shared.tally.splits, 1, "insert 6 splits page 1");
-    let calls = |number: usize| {
-        let records = &run.shared.file.page(number).records;
-        Vec::from_iter(records.iter().map(|record| record.call))
-    };
+    let calls = |number: usize| run.shared.file.page(number).calls();
     assert_eq!((calls(1), calls(2)), (vec![2, 6, 8], vec![3, 5, 7]));
 }
 

@@ -79,7 +79,7 @@ fn random_page(random: &mut Random, capacity: usize, count: usize) -> Page {
 /// A call that the page does not have: any, or a neighbour of one that it has, so that it can belong at every place.
 fn missing(random: &mut Random, page: &Page) -> u32 {
     let mut calls = vec![random.word()];
-    calls.extend(page.records.iter().map(|record| record.call));
+    calls.extend(page.calls());
     loop {
         let step = random.one_of(&[0, 1, u32::MAX]);
         let call = random.one_of(&calls).wrapping_add(step);
@@ -114,7 +114,7 @@ fn find_add_and_remove() {
         let bytes = page.to_bytes(capacity);
         assert_eq!(bytes.len(), page_length(capacity));
         let others = [(); 4].map(|()| missing(random, &page));
-        for call in page.records.iter().map(|r| r.call).chain(others) {
+        for call in page.calls().into_iter().chain(others) {
             let wanted = page.find(call).map_or(MISSING, |r| u64::from(r.charge));
             assert_eq!(find(&bytes, call), wanted);
             let removed = inside(&bytes, |part| remove(part, call));
@@ -145,12 +145,9 @@ fn find_in_every_state() {
             for call in calls_to_look_for(&job, page) {
                 let there = page.records.iter().filter(|r| r.call == call);
                 let charges: Vec<u64> = there.map(|r| u64::from(r.charge)).collect();
-                let told = find(&bytes, call);
-                assert_eq!(
-                    told,
-                    charges.first().copied().unwrap_or(MISSING),
-                    "{call} in {page:?}"
-                );
+                assert!(charges.len() <= 1, "call {call} twice in {page:?}");
+                let wanted = charges.first().copied().unwrap_or(MISSING);
+                assert_eq!(find(&bytes, call), wanted, "{call} in {page:?}");
                 found += usize::from(charges.len() == 1);
                 none += usize::from(charges.is_empty());
             }

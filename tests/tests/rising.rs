@@ -20,16 +20,12 @@ use linked::Lent;
 use states::{calls_to_look_for, every_page, Seen};
 
 const JOBS: u64 = 24_000;
-/// Jobs that are run by the library as often as they have turns.
+/// Jobs that the library runs once for each place where their list can stop.
 const STOPPED: u64 = 2_000;
 
 /// Each call is above the one before it.
 fn rise(calls: &[u32]) -> bool {
     calls.windows(2).all(|pair| pair[0] < pair[1])
-}
-
-fn calls(page: &Page) -> Vec<u32> {
-    page.records.iter().map(|record| record.call).collect()
 }
 
 /// What was met over all states.
@@ -96,7 +92,7 @@ fn every_page_of_every_state_rises() {
     let whole = each_seed(JOBS, |seed| {
         let job = make::mostly_small_job(&mut Random::new(seed, "rising"), seed);
         every_page(&job, |seen| {
-            assert!(rise(&calls(seen.page)), "{:?}", seen.page);
+            assert!(rise(&seen.page.calls()), "{:?}", seen.page);
             met.add(seen);
         });
     });

@@ -42,8 +42,7 @@ fn log(run: &Run) -> Vec<(usize, usize)> {
 }
 
 fn calls(run: &Run, page: usize) -> Vec<u32> {
-    let records = &run.shared.file.page(page).records;
-    records.iter().map(|record| record.call).collect()
+    run.shared.file.page(page).calls()
 }
 
 #[test]

@@ -12,10 +12,10 @@ use Rattle.laws.specs.Turns.Whole.{whole}
 
 -- the records of a page are what the invariant says of them
 pub in-order : (j : Job) → FileOk (j .file) → InOrder j
-in-order j ok = record { rising = up; looks = λ t x k l. look-find _ k (up t x l) }
+in-order j ok = record { pagesRise = up; looks = λ t x k l. look-find _ k (up t x l) }
   where
     up : (t x : ℕ) → t ≤ length (j .turns) → CallsRise (pageAt (stateAt j t .file) x .records)
-    up t x l = whole j ok t l .tidy .pages x .inOrder
+    up t x l = whole j ok t l .tidy .pages x .callsRise
 
 -- CALLS RISE IN EVERY PAGE
 pub pages-in-order : PagesInOrder

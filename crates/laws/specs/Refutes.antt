@@ -1,6 +1,7 @@
 -- A test that fails refutes the claim: where a field of `Explained` or of `InOrder` holds, the test of that name in Weighed is true.
 -- Each is shown from the field's statement alone. No law on turns or bytes is used, and no definition of the machine is opened, so it holds
--- whatever the machine is, and whatever the result: one on which one of the fourteen tests is false does not explain the job (`passes`).
+-- whatever the machine is, and whatever the result: one on which one of the fourteen tests is false does not explain the job (`passes`),
+-- and where one of the two of `InOrder` is false, some page is out of order (`in-order-passes`).
 use Prim.Native.Nat.{ℕ, zero, suc, _<_, _≤_}
 use mathlib.Core.Path.{_≡_, refl, ap}
 use mathlib.Core.Logic.{_⊎_, inl, inr}
@@ -24,12 +25,12 @@ use Rattle.spec.specs.Job.{Job, noOp}
 use Rattle.spec.specs.State.{State}
 use Rattle.spec.specs.Run.{stageOf, run}
 use Rattle.spec.specs.Result.{Line, Result}
-use Rattle.spec.specs.PlainList.{Reply}
-use Rattle.spec.specs.Proper.{NoneTwice, empty, more, CallsRise, flat, rise}
+use Rattle.spec.specs.PlainList.{NoneTwice, empty, more, Reply}
+use Rattle.spec.specs.Proper.{CallsRise, flat, rise}
 use Rattle.spec.specs.Claims.{stateAt, FirstTurn, Ended, Waits, Before, IsFile, Explained, InOrder}
 use Rattle.laws.specs.Tools.{isSome, and-left, and-right, each-imp, true-allOf}
 use Rattle.laws.specs.Weighed.{every, some-of, sameRec, sameFound, sameReply, same, samePage, sameFile, isFile, member, noneTwice, callsRise, ofPages, isDone, isSearch, waits, ended, first, precedes}
-use Rattle.laws.specs.Weighed.{count, answers, refused, once, noOther, sorted, held, charged, listOnce, fileOnce, order, searches, progressAt, progress, finished, rising, looks}
+use Rattle.laws.specs.Weighed.{count, answers, refused, once, noOther, sorted, held, charged, listOnce, fileOnce, order, searches, progressAt, progress, finished, pagesRise, looks}
 
 -- tests joined: when they come out true
 is-not : {a : Bool} → (a ≡ true → ⊥) → not a ≡ true
@@ -321,13 +322,13 @@ module _ (j : Job) (r : Result) (e : InOrder j) where
   unfolding ofPages
   pages-true test h = every-true _ _ (λ t l. every-true _ _ (λ x k. h t x (omega arith)))
 
-  rising-true : rising j r ≡ true
-  unfolding rising
-  rising-true = pages-true callsRise (λ t x l. callsRise-true (e .rising t x l))
+  pagesRise-true : pagesRise j r ≡ true
+  unfolding pagesRise
+  pagesRise-true = pages-true callsRise (λ t x l. callsRise-true (e .pagesRise t x l))
 
   looks-true : looks j r ≡ true
   unfolding looks
   looks-true = pages-true _ (λ t x l. all-true _ _ (λ o h. sameFound-true (e .looks t x (o .call) l)))
 
-  pub order-passes : (rising j r ≡ true) × (looks j r ≡ true)
-  order-passes = (rising-true, looks-true)
+  pub in-order-passes : (pagesRise j r ≡ true) × (looks j r ≡ true)
+  in-order-passes = (pagesRise-true, looks-true)

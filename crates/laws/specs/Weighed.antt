@@ -186,10 +186,10 @@ unfoldable pub ofPages : Job → (List Rec → Bool) → Bool
 ofPages j test =
     every (suc (length (j .turns))) (λ t. every (length (stateAt j t .file .table)) (λ x. test (pageAt (stateAt j t .file) x .records)))
 
-unfoldable pub rising : Job → Result → Bool
-rising j r = ofPages j callsRise
+unfoldable pub pagesRise : Job → Result → Bool
+pagesRise j r = ofPages j callsRise
 
--- for the operations' calls
+-- tried for the calls of the operations
 unfoldable pub looks : Job → Result → Bool
 looks j r = ofPages j (λ rs. allOf (λ (o : Op). sameFound (lookIn rs (o .call)) (findIn rs (o .call))) (j .ops))
 
@@ -246,6 +246,10 @@ released =
 abbrev between : Job
 between = onePage full (op Insert 4 90 ∷ op Search 3 0 ∷ []) (times-of 5 0 ++ times-of 3 1 ++ times-of 4 0)
 
+-- a delete from the middle of a page
+abbrev taken : Job
+taken = onePage full (op Delete 3 0 ∷ []) (times-of 6 0)
+
 -- two inserts of one call come to a new page before the split is done
 abbrev twoWriters : Job
 twoWriters =
@@ -265,6 +269,7 @@ jobs =
     ∷ released
     ∷ between
     ∷ twoWriters
+    ∷ taken
     ∷ []
 
 -- each with the result that is read from what is written
@@ -332,9 +337,9 @@ finished-passes : Passes finished
 unfolding opened tested finished
 finished-passes = refl
 
-rising-passes : Passes rising
-unfolding opened tested rising
-rising-passes = refl
+pagesRise-passes : Passes pagesRise
+unfolding opened tested pagesRise
+pagesRise-passes = refl
 
 looks-passes : Passes looks
 unfolding opened tested looks

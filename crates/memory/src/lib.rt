@@ -179,7 +179,7 @@ pub fn set_change_turn(work: &mut [u8], e: usize, d: usize, v: u16)
 
 // ---- writing pages: "A page's bytes are rewritten inside the lent page table, nothing beside them touched"
 
-// "insert appends"
+// An insert puts its record in its place.
 pub fn add_to(work: &mut [u8], c: usize, x: u16, r: Rec)
     requires { ⌜ Within (now work) c x × (length (pageIn c (now work) x .records) < c) ⌝ }
     ensures { λ _. ⌜ now (work .exit) ≡ withPage c (now (work .entry)) x (added (pageIn c (now (work .entry)) x) r) ⌝ }

@@ -1,6 +1,6 @@
 -- Bytes that begin a page: records written behind the head, and the page's image once it is closed.
 use mathlib.Core.Path.{_≡_, refl, sym, _∙_}
-use mathlib.Core.Logic.{inr}
+use mathlib.Core.Logic.{inl, inr, ⊎-elim}
 use mathlib.Core.List.{List, [], _∷_, _++_, append-assoc}
 use Prim.Native.Nat.{ℕ, zero, suc, _+_, _-_, _*_, _≤_, _<_}
 use native.Mathlib.Omega.{arith}
@@ -9,7 +9,7 @@ use Rattle.spec.specs.declared.Rec.{Rec}
 use Rattle.spec.specs.Basics.{each}
 use Rattle.spec.specs.Bytes.{byte, two, four, long}
 use Rattle.spec.specs.File.{putIn}
-use Rattle.spec.specs.Job.{pageSize}
+use Rattle.spec.specs.Job.{recordSize, pageSize}
 use Rattle.spec.specs.Encode.{recordBytes, pageBytes}
 use Rattle.spec.specs.Decode.{pageOf}
 use Rattle.spec.specs.Split.{added}
@@ -18,7 +18,7 @@ use Rattle.laws.specs.Codec.Parts.{each-snoc}
 use Rattle.laws.specs.Codec.Sections.{length-record, length-records}
 use Rattle.wire.specs.Over.{over}
 use Rattle.wire.specs.OverLaws.{over-none, over-over, over-swap, over-whole, length-over}
-use Rattle.wire.specs.Reads.{over-long, long-over-other}
+use Rattle.wire.specs.Reads.{Apart, over-long, long-over-other}
 use Rattle.page.specs.Room.{room, Sound}
 use Rattle.page.specs.View.{recordAt, recordsFrom, record-read, records-none, records-cons, records-all, records-length}
 use Rattle.page.specs.Image.{closed}
@@ -37,14 +37,14 @@ over-more s rs m r e =
     rw (each-snoc recordBytes rs r)
     (over-over (each recordBytes rs) (recordBytes r) s 4 (pageSize m) (omega (arith, length-records rs)))
 
--- a record behind what is written is as it was
-pub record-behind
-    : (s x : List ℕ) (j : ℕ)
-    → length x ≤ 8 * j
-    → recordAt (over s 4 x) j ≡ recordAt s j
-record-behind s x j h =
-    record-read (over s 4 x) j
-    ∙ rw (long-over-other x s 4 (4 + 8 * j) (inr (omega arith)), long-over-other x s 4 (8 + 8 * j) (inr (omega arith))) (sym (record-read s j))
+-- a record apart from what is written is as it was
+pub record-other : (s x : List ℕ) (at j : ℕ) → Apart (pageSize j) recordSize at (length x) → recordAt (over s at x) j ≡ recordAt s j
+record-other s x at j h =
+    record-read (over s at x) j
+    ∙ rw (long-over-other x s at (4 + 8 * j) (part 0 (omega arith)), long-over-other x s at (8 + 8 * j) (part 4 (omega arith))) (sym (record-read s j))
+  where
+    part : (k : ℕ) → k + 4 ≤ 8 → Apart (4 + k + 8 * j) 4 at (length x)
+    part k l = ⊎-elim (λ u. inl (omega arith)) (λ u. inr (omega arith)) h
 
 -- ---- records written where they stand change nothing: this is where a byte's bound is used
 

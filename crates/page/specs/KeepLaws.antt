@@ -1,6 +1,7 @@
 -- The loop that keeps some of a page's records in place, turn by turn.
 use mathlib.Core.Path.{_≡_, sym, ap, _∙_}
 use mathlib.Core.Bool.{Bool, true, false}
+use mathlib.Core.Logic.{inr}
 use mathlib.Core.List.{List, [], _∷_, _++_, append-nil}
 use Prim.Native.Nat.{ℕ, _+_, _≤_, _<_}
 use native.Mathlib.Nat.{zero-add}
@@ -29,7 +30,7 @@ use Rattle.page.specs.Room.{room, Sound}
 use Rattle.page.specs.Image.{closed}
 use Rattle.page.specs.Keep.{Kept}
 use Rattle.page.specs.Lists.{filter-nil, filter-take, filter-skip, filter-join}
-use Rattle.page.specs.ImageLaws.{over-more, record-behind, closed-image}
+use Rattle.page.specs.ImageLaws.{over-more, record-other, closed-image}
 
 pub kept-start : (f : Rec → Bool) (s : List ℕ) → Kept f s s 0 0
 unfolding each
@@ -46,7 +47,7 @@ module _ {f : Rec → Bool} {s t : List ℕ} {m j : ℕ} (k : Kept f s t m j) wh
   pub kept-behind : recordAt t j ≡ recordAt s j
   kept-behind =
       let x = filter f (recordsFrom s 0 j) in
-      ap (λ (l : List ℕ). recordAt l j) (k .bytes) ∙ record-behind s (each recordBytes x) j (omega (arith, length-records x, k .many, kept-few))
+      ap (λ (l : List ℕ). recordAt l j) (k .bytes) ∙ record-other s (each recordBytes x) 4 j (inr (omega (arith, length-records x, k .many, kept-few)))
 
   next : filter f (recordsFrom s 0 (j + 1)) ≡ filter f (recordsFrom s 0 j) ++ filter f (recordAt s j ∷ [])
   next = rw (add-one, records-snoc s 0 j, zero-add) (filter-join f (recordsFrom s 0 j) (recordAt s j ∷ []))

@@ -2,7 +2,7 @@
 use mathlib.Core.Path.{_≡_, refl, sym, ap, _∙_}
 use mathlib.Core.Logic.{inl}
 use mathlib.Core.List.{List, [], _∷_, _++_}
-use Prim.Native.Nat.{ℕ, suc, _+_, _-_, _*_, _≤_, _<_}
+use Prim.Native.Nat.{ℕ, suc, _+_, _-_, _≤_, _<_}
 use native.Mathlib.Omega.{arith}
 use lib.ListN.{take, drop}
 use lib.Seq.{take-at, drop-at}
@@ -18,10 +18,9 @@ use Rattle.laws.specs.Codec.Parts.{each-join}
 use Rattle.laws.specs.Codec.Sections.{length-record, length-records}
 use Rattle.wire.specs.Over.{over}
 use Rattle.wire.specs.OverLaws.{over-none, over-over, over-swap}
-use Rattle.wire.specs.Reads.{long-over-other}
-use Rattle.page.specs.View.{recordAt, recordsFrom, record-read, records-length, left-more, left-none, left-join}
+use Rattle.page.specs.View.{recordAt, recordsFrom, records-length, left-more, left-none, left-join}
 use Rattle.page.specs.Put.{placeIn}
-use Rattle.page.specs.ImageLaws.{owns}
+use Rattle.page.specs.ImageLaws.{record-other, owns}
 
 pub place-none : (k : ℕ) → placeIn [] k ≡ 0
 unfolding placeIn
@@ -44,12 +43,6 @@ put-there (a ∷ rs) r =
 
 -- ---- the bytes
 
--- a record before what is written is as it was
-record-before : (s x : List ℕ) (at j : ℕ) → pageSize (j + 1) ≤ at → recordAt (over s at x) j ≡ recordAt s j
-record-before s x at j h =
-    record-read (over s at x) j
-    ∙ rw (long-over-other x s at (4 + 8 * j) (inl (omega arith)), long-over-other x s at (8 + 8 * j) (inl (omega arith))) (sym (record-read s j))
-
 -- one record more in front of those that are written
 in-front
     : (s : List ℕ) (i : ℕ) (r : Rec) (rs : List Rec)
@@ -69,7 +62,7 @@ up-none s n = rw (left-none s n n (omega arith)) (over-none s (pageSize (n + 1))
 
 -- one more of them: number k, which is j - 1
 pub up-before : (s : List ℕ) (k j n : ℕ) → j ≡ k + 1 → recordAt (up s j n) k ≡ recordAt s k
-up-before s k j n e = record-before s _ _ k (omega arith)
+up-before s k j n e = record-other s _ _ k (inl (omega arith))
 
 pub up-more : (s : List ℕ) (k j n : ℕ) → j ≡ k + 1 → k < n → over (up s j n) (pageSize j) (recordBytes (recordAt s k)) ≡ up s k n
 up-more s k j n e l = rw (e, left-more s k n l) (in-front s (k + 1) (recordAt s k) (recordsFrom s (k + 1) (n - (k + 1))))

@@ -78,7 +78,7 @@ pub fn find(page: &[u8], call: u32) -> Found
 // ---- writing
 
 // Record number i, from 0.
-pub fn put_rec(page: &mut [u8], i: usize, r: Rec)
+fn put_rec(page: &mut [u8], i: usize, r: Rec)
     requires { ⌜ pageSize (i + 1) ≤ length (now page) ⌝ }
     ensures { λ _. ⌜ now (page .exit) ≡ over (now (page .entry)) (pageSize i) (recordBytes r) ⌝ }
 {

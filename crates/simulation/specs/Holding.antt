@@ -27,7 +27,7 @@ use Rattle.spec.specs.Turn.{homeOf, recOf, planOf, newCount, cleared, placed, d
 use Rattle.spec.specs.Run.{rowOf}
 use Rattle.spec.specs.Proper.{PageNo, In}
 use Rattle.laws.specs.Tools.{if-both, filter-le}
-use Rattle.laws.specs.Turns.CallsRise.{put-length, look-find}
+use Rattle.laws.specs.Turns.CallsRise.{put-length}
 use Rattle.laws.specs.Turns.Prefix.{fit-32}
 use Rattle.laws.specs.Turns.Shared.{allShare-least}
 use Rattle.laws.specs.Turns.Count.{split-count}
@@ -40,7 +40,7 @@ use Rattle.simulation.specs.Shown.{shapeOf, Shown}
 use Rattle.simulation.specs.RowBack.{told}
 use Rattle.simulation.specs.Steady.{Steady}
 use Rattle.simulation.specs.Moves.{Turned, locked, taken, paged}
-use Rattle.simulation.specs.Reads.{page-used, named-is}
+use Rattle.simulation.specs.Reads.{page-used, look-is, named-is}
 use Rattle.simulation.specs.Searching.{goes-on, tells}
 
 module _ (ops : List Op) (s : State) (i : ℕ) (w : List ℕ) (st : Steady ops s) (h : Shown s w) where
@@ -129,7 +129,7 @@ module _ (ops : List Op) (s : State) (i : ℕ) (w : List ℕ) (st : Steady ops s
       paged ops s i w (st .good) (h .picture) _ _ x _ (omega (arith, st .good .fit .within))
       (omega (arith, t .1 e .1, put-length (pageAt (s .file) x .records) (recOf op)))
   on-write x Delete e n t =
-      rw (look-find (pageAt (s .file) x .records) (op .call) (st .tidy .pages x .inOrder))
+      rw (look-is ops s w st h x (op .call))
       (paged ops s i w (st .good) (h .picture) _ _ x _ (omega (arith, st .good .fit .within))
       (let l = filter-le (isNot (op .call)) (pageAt (s .file) x .records) in omega (arith, st .tidy .pages x .room)))
 
@@ -143,7 +143,7 @@ module _ (ops : List Op) (s : State) (i : ℕ) (w : List ℕ) (st : Steady ops s
   unfolding turn memTurn heldTurn memHeld
   on-held x Verify old n k = on-verify x
   on-held x (Release y) old n k = unlocks x (Lock y) n
-  on-held x Decide old n k = rw (page-used ops s w st h x n, look-find (pageAt (s .file) x .records) (op .call) (st .tidy .pages x .inOrder)) (on-decide x _ _ n k)
+  on-held x Decide old n k = rw (page-used ops s w st h x n, look-is ops s w st h x (op .call)) (on-decide x _ _ n k)
   on-held x WritePage old n k = rw (page-used ops s w st h x n) (on-write x _ refl n k)
   on-held x WriteOld old n k = old refl
   on-held x Unlock old n k = unlocks x Done n

@@ -16,7 +16,6 @@ use Rattle.spec.specs.Turn.{foundMoment, looked, reread, turn}
 use Rattle.spec.specs.Run.{rowOf, stageOf}
 use Rattle.spec.specs.Proper.{PageNo}
 use Rattle.laws.specs.Tools.{if-both}
-use Rattle.laws.specs.Turns.CallsRise.{look-find}
 use Rattle.laws.specs.Turns.Slots.{found-moment}
 use Rattle.memory.specs.Memory.{turnIn}
 use Rattle.turn.specs.Rows.{rowImage, moved, answered}
@@ -25,7 +24,7 @@ use Rattle.simulation.specs.Shown.{shapeOf, Shown}
 use Rattle.simulation.specs.RowBack.{told}
 use Rattle.simulation.specs.Steady.{Steady}
 use Rattle.simulation.specs.Moves.{Turned, calm}
-use Rattle.simulation.specs.Reads.{home-is, page-used, named-is}
+use Rattle.simulation.specs.Reads.{home-is, page-used, look-is, named-is}
 
 module _ (ops : List Op) (s : State) (i : ℕ) (w : List ℕ) (st : Steady ops s) (h : Shown s w) where
   abbrev op : Op
@@ -75,7 +74,7 @@ module _ (ops : List Op) (s : State) (i : ℕ) (w : List ℕ) (st : Steady ops s
 
   pub on-read : (x : ℕ) → stageOf s i ≡ ReadPage x → PageNo (s .file) x → Does (turn s op (ReadPage x)) (turned (ReadPage x))
   unfolding turn memTurn
-  on-read x e n = rw (page-used ops s w st h x n, look-find (pageAt (s .file) x .records) (op .call) (st .tidy .pages x .inOrder)) (on-looked x _ n e refl)
+  on-read x e n = rw (page-used ops s w st h x n, look-is ops s w st h x (op .call)) (on-looked x _ n e refl)
 
   pub on-reread : (x t : ℕ) → Does (turn s op (Reread x t)) (turned (Reread x t))
   unfolding turn memTurn reread memReread

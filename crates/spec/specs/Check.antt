@@ -133,7 +133,8 @@ wrongOwner b = let f = fileOf b in firstOf (ownerFault f) 0 (f .directory)
 unfoldable pub notAbove : List Rec → ℕ → Rec → Bool
 notAbove rs i r = ltb 0 i && leb (r .call) (getD rs (i - 1) noRecord .call)
 
--- 8 record: "pseudo key does not begin with the pattern", or "a page out of order". Record number i of the page is r
+-- 8 record: "pseudo key does not begin with the pattern", or "a page out of order". ("Or the call is earlier in the page" holds at no lower place:
+-- law Codec/Repeats.) Record number i of the page is r
 unfoldable pub badRecord : Page → ℕ → Rec → Bool
 badRecord p i r = not (eqb (index (p .depth) (r .call)) (p .pattern)) || notAbove (p .records) i r
 

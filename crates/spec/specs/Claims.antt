@@ -21,10 +21,10 @@ use Rattle.spec.specs.Decode.{jobOf}
 use Rattle.spec.specs.State.{State}
 use Rattle.spec.specs.Run.{idle, stageOf, steps, start, run}
 use Rattle.spec.specs.Result.{Told, Line, Result, readResult}
-use Rattle.spec.specs.PlainList.{replyOf, nothingTold, Replay, replay}
+use Rattle.spec.specs.PlainList.{NoneTwice, replyOf, nothingTold, Replay, replay}
 use Rattle.spec.specs.Check.{jobFault}
 use Rattle.spec.specs.Outcome.{resultBytes}
-use Rattle.spec.specs.Proper.{NoneTwice, CallsRise}
+use Rattle.spec.specs.Proper.{CallsRise}
 
 -- the state after the first t turns, that is before turn t (turns count from 0)
 unfoldable pub stateAt : Job → ℕ → State
@@ -133,8 +133,8 @@ Demand3 = (b post : List ℕ) → AreBytes b → Accepted b → Explained (jobOf
 
 -- Calls rise in the pages of the job j: at every time, in every page x of the table, also one that no entry names.
 pub record InOrder (j : Job) : Type 0 where
-  -- "records in every page stand by rising call number"
-  pub rising : (t x : ℕ) → t ≤ length (j .turns) → CallsRise (pageAt (stateAt j t .file) x .records)
+  -- "records in every page stand by rising call number, in files read and written": read, at time 0; written, at the last (`Explained.charged`)
+  pub pagesRise : (t x : ℕ) → t ≤ length (j .turns) → CallsRise (pageAt (stateAt j t .file) x .records)
   -- "Looking for a call in a page may then stop at the first higher number, and finds what it found before"
   pub looks
       : (t x k : ℕ)

@@ -1,4 +1,5 @@
 -- The ten marked items of "Jobs worked through" as one table, from job bytes to result bytes, refusal or printed text. One proof covers its rows.
+-- A second table is for calls that rise.
 use Prim.Native.Nat.{ℕ}
 use mathlib.Core.Path.{_≡_, refl}
 use mathlib.Core.List.{List, [], _∷_, _++_, map}
@@ -16,7 +17,7 @@ use Rattle.spec.specs.Check.{Lent}
 use Rattle.spec.specs.Outcome.{resultBytes, outcome, bufferAfter}
 use Rattle.spec.specs.Report.{printed}
 use Rattle.spec.specs.Claims.{fed}
-use Rattle.spec.specs.Worked.{jobB, resultB, textB, jobLong, jobC, resultC, jobInsert, resultD, jobG, resultG, jobH, resultH, jobI, resultI, jobJ, resultJ, jobRising, resultRising, jobPut, resultPut}
+use Rattle.spec.specs.Worked.{jobB, resultB, textB, jobLong, jobC, resultC, jobInsert, resultD, jobG, resultG, jobH, resultH, jobI, resultI, jobJ, resultJ, jobRising, resultRising, jobPut, resultPut, jobTaken, resultTaken}
 use Rattle.spec.specs.Opened.{opened}
 
 -- what is lent: a result buffer of 1,000 bytes that are all 7, 4 rows, and the least working memory
@@ -98,13 +99,15 @@ table : map (λ (m : Item). says (m .asked)) marked ≡ map (λ (m : Item). m .p
 unfolding opened fed
 table = refl
 
--- "records in every page stand by rising call number": after a split, and after an insert at the front, in the middle and at the end
+-- "records in every page stand by rising call number .. Insert, split and delete all keep this": after a split, after an insert at the front, in the
+-- middle and at the end, and after a delete
 abbrev rising : List Item
 rising =
     (job jobRising ⇒ ran resultRising)
     ∷ (job (jobPut 0) ⇒ ran (resultPut (0 ∷ 30 ∷ 1 ∷ 10 ∷ 5 ∷ 20 ∷ [])))
     ∷ (job (jobPut 3) ⇒ ran (resultPut (1 ∷ 10 ∷ 3 ∷ 30 ∷ 5 ∷ 20 ∷ [])))
     ∷ (job (jobPut 9) ⇒ ran (resultPut (1 ∷ 10 ∷ 5 ∷ 20 ∷ 9 ∷ 30 ∷ [])))
+    ∷ (job jobTaken ⇒ ran resultTaken)
     ∷ []
 
 in-order : map (λ (m : Item). says (m .asked)) rising ≡ map (λ (m : Item). m .paper) rising

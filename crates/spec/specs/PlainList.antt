@@ -1,5 +1,6 @@
 -- "The plain list": one operation at a time on a list of calls with charges, and the log replayed on it.
 use Prim.Native.Nat.{ℕ}
+use mathlib.Core.Path.{_≡_}
 use mathlib.Core.List.{List, [], _∷_, _++_}
 use mathlib.Core.Bool.{Bool, _||_}
 use mathlib.Core.Option.{Option, none, some}
@@ -14,6 +15,11 @@ use Rattle.spec.specs.Code.{found, notFound, stored, alreadyThere, delet
 use Rattle.spec.specs.File.{findIn, without}
 use Rattle.spec.specs.Job.{noOp}
 use Rattle.spec.specs.Result.{Told, Line}
+
+-- "no call twice": of each record in a list, the rest has no record with its call
+pub data NoneTwice : List Rec → Type 0 where
+  empty : NoneTwice []
+  more : {r : Rec} {rs : List Rec} → findIn rs (r .call) ≡ none → NoneTwice rs → NoneTwice (r ∷ rs)
 
 -- What the plain list answers to one operation, and the list after it.
 pub record Plain : Type 0 where

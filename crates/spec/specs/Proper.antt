@@ -3,18 +3,12 @@ use Prim.Native.Nat.{ℕ, suc, _^_, _<_, _≤_}
 use mathlib.Core.Path.{_≡_}
 use mathlib.Core.List.{List, [], _∷_}
 use mathlib.Core.Bool.{true}
-use mathlib.Core.Option.{none}
 use lib.ListN.{length, getD}
 use Rattle.spec.specs.declared.Rec.{Rec}
 use Rattle.spec.specs.Basics.{Each}
 use Rattle.spec.specs.Key.{index, begins}
-use Rattle.spec.specs.File.{Page, File, zeroPage, pageAt, entryAt, findIn}
+use Rattle.spec.specs.File.{Page, File, zeroPage, pageAt, entryAt}
 use Rattle.spec.specs.Job.{maxDepth, minCapacity, maxCapacity, maxPages}
-
--- no call is in a list twice: of each record, the rest has no record with its call
-pub data NoneTwice : List Rec → Type 0 where
-  empty : NoneTwice []
-  more : {r : Rec} {rs : List Rec} → findIn rs (r .call) ≡ none → NoneTwice rs → NoneTwice (r ∷ rs)
 
 -- calls rise in a list: each is below those of the records behind it
 pub data CallsRise : List Rec → Type 0 where
@@ -46,7 +40,7 @@ pub record PageOk (g c : ℕ) (q : Page) : Type 0 where
   pub small : q .pattern < 2 ^ q .depth
   pub room : length (q .records) ≤ c
   pub homed : Each (λ a. In q (a .call)) (q .records)
-  pub inOrder : CallsRise (q .records)
+  pub callsRise : CallsRise (q .records)
 
 pub record FileOk (f : File) : Type 0 where
   pub fit : Fit f

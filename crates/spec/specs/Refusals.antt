@@ -26,13 +26,14 @@ base =
 abbrev empty : List ℕ
 empty = set (set (set base 37 0) 40 0) 44 0
 
--- a charge file of one page, g 0, c 3, P 1, U 1, with these three calls
+-- a charge file, g 1, c 3, P 2, U 2; page 1 has these three calls, page 2 has none
 abbrev calls : ℕ → ℕ → ℕ → List ℕ
 calls x y z =
-    1 ∷ 0 ∷ 0 ∷ 3 ∷ 1 ∷ 0 ∷ 1 ∷ 0 ∷ 0 ∷ 0 ∷ 0 ∷ 0 ∷  -- version, g, c, P, U, m, turns
-    32 ∷ 0 ∷ 0 ∷ 0 ∷ 34 ∷ 0 ∷ 0 ∷ 0 ∷ 62 ∷ 0 ∷ 0 ∷ 0 ∷ 62 ∷ 0 ∷ 0 ∷ 0 ∷ 62 ∷ 0 ∷ 0 ∷ 0 ∷  -- offsets of directory, page table, operations and turns; total
-    1 ∷ 0 ∷  -- directory
-    0 ∷ 3 ∷ 0 ∷ 0 ∷ x ∷ 0 ∷ 0 ∷ 0 ∷ 10 ∷ 0 ∷ 0 ∷ 0 ∷ y ∷ 0 ∷ 0 ∷ 0 ∷ 20 ∷ 0 ∷ 0 ∷ 0 ∷ z ∷ 0 ∷ 0 ∷ 0 ∷ 30 ∷ 0 ∷ 0 ∷ 0 ∷  -- page 1
+    1 ∷ 0 ∷ 1 ∷ 3 ∷ 2 ∷ 0 ∷ 2 ∷ 0 ∷ 0 ∷ 0 ∷ 0 ∷ 0 ∷  -- version, g, c, P, U, m, turns
+    32 ∷ 0 ∷ 0 ∷ 0 ∷ 36 ∷ 0 ∷ 0 ∷ 0 ∷ 92 ∷ 0 ∷ 0 ∷ 0 ∷ 92 ∷ 0 ∷ 0 ∷ 0 ∷ 92 ∷ 0 ∷ 0 ∷ 0 ∷  -- offsets of directory, page table, operations and turns; total
+    1 ∷ 0 ∷ 2 ∷ 0 ∷  -- directory
+    1 ∷ 3 ∷ 0 ∷ 0 ∷ x ∷ 0 ∷ 0 ∷ 0 ∷ 10 ∷ 0 ∷ 0 ∷ 0 ∷ y ∷ 0 ∷ 0 ∷ 0 ∷ 20 ∷ 0 ∷ 0 ∷ 0 ∷ z ∷ 0 ∷ 0 ∷ 0 ∷ 30 ∷ 0 ∷ 0 ∷ 0 ∷  -- page 1
+    1 ∷ 0 ∷ 1 ∷ 0 ∷ 0 ∷ 0 ∷ 0 ∷ 0 ∷ 0 ∷ 0 ∷ 0 ∷ 0 ∷ 0 ∷ 0 ∷ 0 ∷ 0 ∷ 0 ∷ 0 ∷ 0 ∷ 0 ∷ 0 ∷ 0 ∷ 0 ∷ 0 ∷ 0 ∷ 0 ∷ 0 ∷ 0 ∷  -- page 2
     []
 
 record Edit : Type 0 where
@@ -127,21 +128,22 @@ edits =
     ∷ edit 36 0 7 34  -- another page's does
     ∷ edit 40 1 8 40  -- pseudo key
     ∷ edit 60 2 8 60
-    ∷ edit 68 1 8 68  -- the call is the one before it
+    ∷ edit 68 1 8 68  -- the same call as the record before it
     ∷ edit 60 5 8 68  -- below the one before it
-    ∷ edit 63 1 8 68  -- by its last byte
-    ∷ other (set (set base 60 2) 68 1) 8 60  -- pattern and order, the lower place
-    ∷ other (set (set base 60 5) 68 4) 8 68
+    ∷ edit 63 1 8 68  -- by the last byte of the one before it
+    ∷ other (set (set base 60 5) 68 4) 8 68  -- both at one record
     ∷ other (set (set base 68 1) 40 1) 8 40  -- the earlier page first: pattern there before order, and order before pattern
     ∷ other (set (set (set (set base 60 2) 37 2) 40 4) 48 2) 8 48
-    ∷ fine enough (calls 0 1 2)  -- rising calls, from 0 on
-    ∷ other (calls 0 0 1) 8 46
-    ∷ other (calls 2 1 3) 8 46
-    ∷ other (calls 1 3 2) 8 54
-    ∷ other (calls 1 2 2) 8 54
-    ∷ other (calls 5 3 5) 8 46  -- the call is earlier in the page: out of order before that
-    ∷ other (calls 1 5 1) 8 54
-    ∷ other (calls 3 2 1) 8 46
+    ∷ fine enough (calls 0 2 4)  -- rising calls, from 0 on
+    ∷ other (calls 0 0 2) 8 48
+    ∷ other (calls 4 2 6) 8 48
+    ∷ other (calls 2 6 4) 8 56
+    ∷ other (calls 2 4 4) 8 56
+    ∷ other (calls 6 4 2) 8 48  -- the first of two
+    ∷ other (calls 6 4 6) 8 48  -- the call is earlier in the page: out of order before that
+    ∷ other (calls 2 6 2) 8 56  -- and there
+    ∷ other (calls 4 2 7) 8 48  -- in one page, the lower place: order before pattern
+    ∷ other (calls 2 5 4) 8 48  -- and pattern before order
     ∷ edit 96 0 9 96  -- kind
     ∷ edit 96 4 9 96
     ∷ edit 97 1 9 96  -- spare byte

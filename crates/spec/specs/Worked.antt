@@ -99,7 +99,7 @@ resultRising =
     1 ∷ 3 ∷ 1 ∷ 0 ∷ 1 ∷ 0 ∷ 0 ∷ 0 ∷ 10 ∷ 0 ∷ 0 ∷ 0 ∷ 3 ∷ 0 ∷ 0 ∷ 0 ∷ 30 ∷ 0 ∷ 0 ∷ 0 ∷ 5 ∷ 0 ∷ 0 ∷ 0 ∷ 20 ∷ 0 ∷ 0 ∷ 0 ∷  -- file: page 2
     []
 
--- a page of three records with calls 1 and 5; this call is inserted, and there is room
+-- a page with room for three records, which has calls 1 and 5; this call is inserted
 abbrev pub jobPut : ℕ → List ℕ
 jobPut call =
     1 ∷ 0 ∷ 0 ∷ 3 ∷ 1 ∷ 0 ∷ 1 ∷ 0 ∷ 1 ∷ 0 ∷ 6 ∷ 0 ∷  -- version, g, c, P, U, m, turns
@@ -121,6 +121,13 @@ resultPut records =
     1 ∷ 0 ∷  -- file: directory
     0 ∷ 3 ∷ 0 ∷ 0 ∷ [])
     ++ each four records
+
+-- the same page, full, with call 9 too; call 5 is deleted
+abbrev pub jobTaken : List ℕ
+jobTaken = set (set (set (set (set (jobPut 5) 35 3) 54 9) 58 30) 62 3) 68 0
+
+abbrev pub resultTaken : List ℕ
+resultTaken = set (set (set (resultPut (1 ∷ 10 ∷ 9 ∷ 30 ∷ 0 ∷ 0 ∷ [])) 24 5) 28 20) 71 2
 
 -- (D), (E2), (F): the same with two pages; the three differ in the call that is inserted
 abbrev pub jobD : List ℕ

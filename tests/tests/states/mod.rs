@@ -41,8 +41,10 @@ pub fn every_page(job: &Job, mut see: impl FnMut(&Seen)) {
 
 /// Calls to look for in a page: each that it has with its two neighbours, the first and the last there are, and those of the job's operations.
 pub fn calls_to_look_for(job: &Job, page: &Page) -> Vec<u32> {
-    let held = page.records.iter().map(|record| record.call);
-    let near = held.flat_map(|call| [call, call.wrapping_sub(1), call.wrapping_add(1)]);
+    let near = page
+        .calls()
+        .into_iter()
+        .flat_map(|call| [call, call.wrapping_sub(1), call.wrapping_add(1)]);
     let asked = job.operations.iter().map(|operation| operation.call);
     near.chain([0, u32::MAX]).chain(asked).collect()
 }

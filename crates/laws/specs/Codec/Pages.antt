@@ -69,7 +69,7 @@ records-count p = rw (length-map, length-parts)
 pub page-proper : {h : Header} {x : ℕ} {p : List ℕ} → PageFine h x p → RecordsOk (pageOf p) → PageOk (h .g) (h .c) (pageOf p)
 unfolding pageOf
 page-proper fine r =
-    record { deep = fine .deep; small = fine .small; room = rw records-count (fine .count); homed = r .homed; inOrder = r .inOrder }
+    record { deep = fine .deep; small = fine .small; room = rw records-count (fine .count); homed = r .homed; callsRise = r .callsRise }
 
 pub zero-page : (p : List ℕ) → zeros p ≡ true → pageOf p ≡ zeroPage
 unfolding pageOf word parts

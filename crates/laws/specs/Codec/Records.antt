@@ -19,45 +19,45 @@ use Rattle.laws.specs.Codec.Tools.{failed, each-places}
 use Rattle.laws.specs.Codec.Walk.{first-none}
 use Rattle.laws.specs.Codec.InUse.{first-in-use}
 
--- calls rise, each above the one before it
-abbrev Above : List Rec → Type 0
-Above rs = (k : ℕ) → suc k < length rs → getD rs k noRecord .call < getD rs (suc k) noRecord .call
+-- record k + 1 is above record k
+abbrev pub Up : List Rec → ℕ → Type 0
+Up rs k = getD rs k noRecord .call < getD rs (suc k) noRecord .call
 
-rise-above : {rs : List Rec} → CallsRise rs → Above rs
-rise-above flat k l = absurd (omega arith)
-rise-above (rise {rs = rs} low h) zero l = each-at rs 0 noRecord (omega arith) low
-rise-above (rise low h) (suc k) l = rise-above h k (omega arith)
+rise-up : {rs : List Rec} → CallsRise rs → (k : ℕ) → suc k < length rs → Up rs k
+rise-up flat k l = absurd (omega arith)
+rise-up (rise {rs = rs} low h) zero l = each-at rs 0 noRecord (omega arith) low
+rise-up (rise low h) (suc k) l = rise-up h k (omega arith)
 
-above-rise : (rs : List Rec) → Above rs → CallsRise rs
-above-rise [] h = flat
-above-rise (r ∷ []) h = rise end flat
-above-rise (r ∷ a ∷ rs) h =
+up-rise : (rs : List Rec) → ((k : ℕ) → suc k < length rs → Up rs k) → CallsRise rs
+up-rise [] h = flat
+up-rise (r ∷ []) h = rise end flat
+up-rise (r ∷ a ∷ rs) h =
     let low = h 0 (omega arith) in
-    let t = above-rise (a ∷ rs) (λ k l. h (suc k) (omega arith)) in
+    let t = up-rise (a ∷ rs) (λ k l. h (suc k) (omega arith)) in
     rise (next low (each-imp (λ b u. omega arith) (lowest t))) t
 
 -- as row 8 counts: the first record has none before it
 abbrev AboveLast : List Rec → ℕ → Type 0
 AboveLast rs k = 0 < k → getD rs (k - 1) noRecord .call < getD rs k noRecord .call
 
-above-last : {rs : List Rec} → CallsRise rs → (k : ℕ) → k < length rs → AboveLast rs k
-above-last h zero l z = absurd (omega arith)
-above-last h (suc k) l z = let e : suc k - 1 ≡ k = omega arith in rw e (rise-above h k l)
+up-above : {rs : List Rec} → CallsRise rs → (k : ℕ) → k < length rs → AboveLast rs k
+up-above h zero l z = absurd (omega arith)
+up-above h (suc k) l z = let e : suc k - 1 ≡ k = omega arith in rw e (rise-up h k l)
 
-last-above : (rs : List Rec) → ((k : ℕ) → k < length rs → AboveLast rs k) → Above rs
-last-above rs h k l = let e : suc k - 1 ≡ k = omega arith in rw e at (h (suc k) l (omega arith))
+pub above-up : (rs : List Rec) (k : ℕ) → AboveLast rs (suc k) → Up rs k
+above-up rs k h = let e : suc k - 1 ≡ k = omega arith in rw e at (h (omega arith))
 
 -- the records of a page that row 8 does not refuse
 pub record RecordsOk (p : Page) : Type 0 where
   pub homed : Each (λ a. In p (a .call)) (p .records)
-  pub inOrder : CallsRise (p .records)
+  pub callsRise : CallsRise (p .records)
 
 page-records : (place : ℕ) (p : Page) → firstOf (recordFault place p) 0 (p .records) ≡ none ↔ RecordsOk p
 unfolding recordFault badRecord notAbove
 page-records place p =
     simp (first-none (recordFault place p) (p .records) noRecord, failed) (
-      λ h. record { homed = each-places _ noRecord .1 (λ k l. h k l .0); inOrder = above-rise _ (last-above (p .records) (λ k l. h k l .1)) },
-      λ ok k l. (each-places _ noRecord .0 (ok .homed) k l, above-last (ok .inOrder) k l),
+      λ h. record { homed = each-places _ noRecord .1 (λ k l. h k l .0); callsRise = up-rise _ (λ k l. above-up (p .records) k (h (suc k) l .1)) },
+      λ ok k l. (each-places _ noRecord .0 (ok .homed) k l, up-above (ok .callsRise) k l),
     )
 
 -- row 8

@@ -1,6 +1,6 @@
 -- Row 8 needs no test of its own for a call that is earlier in the page: with that test beside it, it finds the same place, since up to there calls
 -- would have to rise.
-use Prim.Native.Nat.{ℕ, zero, suc, _-_, _<_, _≤_}
+use Prim.Native.Nat.{ℕ, zero, suc, _<_, _≤_}
 use mathlib.Core.Path.{_≡_, refl, ap, _∙_}
 use mathlib.Core.Logic.{by-cases}
 use mathlib.Core.List.{List, [], _∷_}
@@ -11,17 +11,19 @@ use native.Mathlib.Decide.{ℕ-discrete}
 use lib.ListN.{length, getD, take}
 use Rattle.spec.specs.declared.Rec.{Rec}
 use Rattle.spec.specs.Basics.{when, firstOf}
-use Rattle.spec.specs.File.{Page, noRecord, findIn}
-use Rattle.spec.specs.Job.{recordPlace}
-use Rattle.spec.specs.Check.{notAbove, badRecord, recordFault}
+use Rattle.spec.specs.File.{Page, noRecord, pagesInUse, findIn}
+use Rattle.spec.specs.Job.{pagePlace, recordPlace}
+use Rattle.spec.specs.Decode.{headerOf, fileOf}
+use Rattle.spec.specs.Check.{notAbove, badRecord, recordFault, recordFaultIn, wrongRecord}
 use Rattle.laws.specs.Tools.{isSome}
 use Rattle.laws.specs.Turns.Records.{find-nil, find-miss}
 use Rattle.laws.specs.Codec.Tools.{failed, or-no, when-none}
 use Rattle.laws.specs.Codec.Walk.{first-agree}
+use Rattle.laws.specs.Codec.Records.{Up, above-up}
 
 -- the calls of the first i + 1 records rise
 abbrev Climb : List Rec → ℕ → Type 0
-Climb rs i = (k : ℕ) → k < i → getD rs k noRecord .call < getD rs (suc k) noRecord .call
+Climb rs i = (k : ℕ) → k < i → Up rs k
 
 climbs : (rs : List Rec) (i : ℕ) → Climb rs i → getD rs 0 noRecord .call ≤ getD rs i noRecord .call
 climbs rs zero h = omega arith
@@ -47,12 +49,9 @@ or-same true b h = refl
 or-same false b h = h refl
 
 -- a record that is not refused is above the one before it
-passed-above
-    : (p : Page) (k : ℕ)
-    → badRecord p (suc k) (getD (p .records) (suc k) noRecord) ≡ false
-    → getD (p .records) k noRecord .call < getD (p .records) (suc k) noRecord .call
+passed-up : (p : Page) (k : ℕ) → badRecord p (suc k) (getD (p .records) (suc k) noRecord) ≡ false → Up (p .records) k
 unfolding badRecord notAbove
-passed-above p k h = let e : suc k - 1 ≡ k = omega arith in rw e at ((simp failed at h) .1 (omega arith))
+passed-up p k h = above-up (p .records) k ((simp failed at h) .1)
 
 module _ (place : ℕ) (p : Page) where
   abbrev at : ℕ → Rec
@@ -66,13 +65,23 @@ module _ (place : ℕ) (p : Page) where
   unfolding earlierFault earlierToo recordFault isSome
   same-fault k l before =
       ap (λ t. when t (recordPlace place k))
-      (or-same (badRecord p k (at k)) _ (λ e. ap isSome (none-earlier (p .records) k l (λ q u. passed-above p q (passed e (suc q) u)))))
+      (or-same (badRecord p k (at k)) _ (λ e. ap isSome (none-earlier (p .records) k l (λ q u. passed-up p q (passed e (suc q) u)))))
     where
       passed : badRecord p k (at k) ≡ false → (q : ℕ) → q ≤ k → badRecord p q (at q) ≡ false
       passed e q u =
           by-cases (ℕ-discrete q k) (λ (i : q ≡ k). rw i e)
           (λ n. or-no _ _ .0 (when-none _ _ .0 (before q (omega (arith, n)))) .0)
 
-  -- THE FIRST PLACE IS THE SAME
-  pub repeats-told : firstOf (earlierFault place p) 0 (p .records) ≡ firstOf (recordFault place p) 0 (p .records)
-  repeats-told = first-agree (earlierFault place p) (recordFault place p) (p .records) noRecord same-fault
+  page-told : firstOf (earlierFault place p) 0 (p .records) ≡ firstOf (recordFault place p) 0 (p .records)
+  page-told = first-agree (earlierFault place p) (recordFault place p) (p .records) noRecord same-fault
+
+-- of all pages in use
+unfoldable pub wrongOrEarlier : List ℕ → Option ℕ
+wrongOrEarlier b =
+    let h = headerOf b in
+    firstOf (λ x p. firstOf (earlierFault (pagePlace h x) p) 0 (p .records)) 1 (pagesInUse (fileOf b))
+
+-- THE PLACE IS THE SAME
+pub repeats-told : (b : List ℕ) → wrongOrEarlier b ≡ wrongRecord b
+unfolding wrongOrEarlier wrongRecord recordFaultIn
+repeats-told b = λ i. firstOf (λ x p. page-told (pagePlace (headerOf b) x) p i) 1 (pagesInUse (fileOf b))

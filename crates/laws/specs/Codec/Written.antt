@@ -149,7 +149,7 @@ module _ (j : Job) (P : JobProper j) where
   unfolding wrongRecord
   r8 =
       rw (file-back j fits)
-      (records-said _ (j .file) (ok .fit .within) (ok .fit .pages) .1 (λ x n. let p = ok .pages x n in record { homed = p .homed; inOrder = p .inOrder }))
+      (records-said _ (j .file) (ok .fit .within) (ok .fit .pages) .1 (λ x n. let p = ok .pages x n in record { homed = p .homed; callsRise = p .callsRise }))
 
   r9 : wrongOp (encodeJob j) ≡ none
   unfolding wrongOp

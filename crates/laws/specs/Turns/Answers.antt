@@ -18,8 +18,8 @@ use Rattle.spec.specs.Code.{noDepth, noPage}
 use Rattle.spec.specs.State.{State, gone}
 use Rattle.spec.specs.Run.{rowOf, run}
 use Rattle.spec.specs.Result.{Told, toldOf, Line, linesFrom, logOf, Result, resultOf, result}
-use Rattle.spec.specs.PlainList.{Plain, turnedDown, hint, plainStep, nothingTold, askLine, Reply, replyOf, Replay, replay}
-use Rattle.spec.specs.Proper.{NoneTwice, FileOk}
+use Rattle.spec.specs.PlainList.{NoneTwice, Plain, turnedDown, hint, plainStep, nothingTold, askLine, Reply, replyOf, Replay, replay}
+use Rattle.spec.specs.Proper.{FileOk}
 use Rattle.spec.specs.Claims.{noLine}
 use Rattle.laws.specs.Tools.{if-case, if-true, if-false}
 use Rattle.laws.specs.Turns.Records.{filter-twice, added-twice}

@@ -12,7 +12,8 @@ use borrow.Author.Tests.{ltb-true, ltb-false, lt-ltb, le-ltb, eq-eqb, ne-eqb}
 use Rattle.spec.specs.declared.Rec.{Rec}
 use Rattle.spec.specs.Basics.{if, filter, Each, end, next, Has, here, there}
 use Rattle.spec.specs.File.{findIn, lookIn, putIn}
-use Rattle.spec.specs.Proper.{NoneTwice, empty, more, CallsRise, flat, rise}
+use Rattle.spec.specs.PlainList.{NoneTwice, empty, more}
+use Rattle.spec.specs.Proper.{CallsRise, flat, rise}
 use Rattle.laws.specs.Tools.{if-case, if-true, if-false, first, rest, each-imp, filter-each}
 use Rattle.laws.specs.Turns.Records.{find-nil, find-hit, find-miss, find-under, none-head, none-tail}
 
@@ -75,7 +76,7 @@ put-has (a ∷ rs) r x =
 pub lowest : {r : Rec} {rs : List Rec} → CallsRise (r ∷ rs) → Each (λ a. r .call < a .call) rs
 lowest (rise l h) = l
 
-pub risen : {r : Rec} {rs : List Rec} → CallsRise (r ∷ rs) → CallsRise rs
+risen : {r : Rec} {rs : List Rec} → CallsRise (r ∷ rs) → CallsRise rs
 risen (rise l h) = h
 
 -- a call below all of them is not among them

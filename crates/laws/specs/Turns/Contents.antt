@@ -10,7 +10,8 @@ use borrow.Author.Tests.{eq-eqb, ne-eqb}
 use Rattle.spec.specs.declared.Rec.{Rec}
 use Rattle.spec.specs.Key.{index}
 use Rattle.spec.specs.File.{File, pageAt, entryAt, findIn, hasIndex, ofIndex, heldFrom, contents}
-use Rattle.spec.specs.Proper.{NoneTwice, empty, Fit, PageOk}
+use Rattle.spec.specs.PlainList.{NoneTwice, empty}
+use Rattle.spec.specs.Proper.{Fit, PageOk}
 use Rattle.laws.specs.Turns.Prefix.{index-in}
 use Rattle.laws.specs.Turns.Records.{find-nil, find-left, find-right, filter-find, filter-lost, filter-twice, join-twice}
 use Rattle.laws.specs.Turns.CallsRise.{rise-once}
@@ -47,7 +48,7 @@ held-twice : (n : ℕ) (f : File) (j : ℕ) → ((x : ℕ) → PageOk (f .g) (f 
 unfolding heldFrom ofIndex
 held-twice zero f j ok = empty
 held-twice (suc n) f j ok =
-    join-twice _ _ (filter-twice (hasIndex (f .g) j) _ (rise-once _ (ok (entryAt f j) .inOrder))) (held-twice n f (suc j) ok)
+    join-twice _ _ (filter-twice (hasIndex (f .g) j) _ (rise-once _ (ok (entryAt f j) .callsRise))) (held-twice n f (suc j) ok)
     (λ k.
     by-cases (ℕ-discrete (index (f .g) k) j) (λ e. inr (held-none n f (suc j) k (omega arith))) (λ e. inl (of-other (f .g) j k _ e)))
 

@@ -38,7 +38,7 @@ added-ok g c p r h i l n =
       small = h .small;
       room = let e = put-length (p .records) r in omega arith;
       homed = put-each (p .records) r (h .homed) i;
-      inOrder = put-rise (p .records) r (h .inOrder) n;
+      callsRise = put-rise (p .records) r (h .callsRise) n;
     }
 
 half-small : (v : Bool) (q d : ℕ) → q < 2 ^ d → 2 * q + digit v < 2 ^ suc d
@@ -59,7 +59,7 @@ half-ok g c v p h l w =
           let b : bit (p .depth) (r .call) ≡ v = beq-true _ _ e in
           rw b at (to-half (p .depth) (r .call) (p .pattern) (omega arith) i))
           (h .homed);
-      inOrder = filter-rise (hasBit v (p .depth)) (p .records) (h .inOrder);
+      callsRise = filter-rise (hasBit v (p .depth)) (p .records) (h .callsRise);
     }
 
 pub cleared-ok : (g c : ℕ) (p : Page) (k : ℕ) → PageOk g c p → PageOk g c (cleared p k)
@@ -70,11 +70,11 @@ cleared-ok g c p k h =
       small = h .small;
       room = let l = filter-le (isNot k) (p .records) in omega (arith, h .room);
       homed = filter-each (isNot k) (p .records) (λ r i e. i) (h .homed);
-      inOrder = filter-rise (isNot k) (p .records) (h .inOrder);
+      callsRise = filter-rise (isNot k) (p .records) (h .callsRise);
     }
 
 pub empty-ok : (g c : ℕ) → PageOk g c zeroPage
-empty-ok g c = record { deep = omega arith; small = omega arith; room = omega arith; homed = end; inOrder = flat }
+empty-ok g c = record { deep = omega arith; small = omega arith; room = omega arith; homed = end; callsRise = flat }
 
 -- an insert into page p comes to an end: there is room, or enough splits are allowed
 abbrev Ready : ℕ → ℕ → ℕ → Page → ℕ → Type 0

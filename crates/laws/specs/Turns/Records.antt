@@ -12,7 +12,8 @@ use borrow.Author.Tests.{eq-eqb, ne-eqb}
 use Rattle.spec.specs.declared.Rec.{Rec}
 use Rattle.spec.specs.Basics.{if, filter, Each, Has, here, there}
 use Rattle.spec.specs.File.{Page, findIn, isNot, without}
-use Rattle.spec.specs.Proper.{NoneTwice, empty, more, In}
+use Rattle.spec.specs.PlainList.{NoneTwice, empty, more}
+use Rattle.spec.specs.Proper.{In}
 use Rattle.laws.specs.Tools.{if-case, if-true, if-false, first, rest}
 
 pub find-nil : (k : ℕ) → findIn [] k ≡ none

@@ -74,6 +74,6 @@ fileE-ok =
           small = omega arith;
           room = omega arith;
           homed = next (zero-index 2) (next (zero-index 3) end);
-          inOrder = let low : 2 < 3 = omega arith in rise (next low end) (rise end flat);
+          callsRise = let low : 2 < 3 = omega arith in rise (next low end) (rise end flat);
         }
     pages (suc (suc x)) p = absurd (omega arith)

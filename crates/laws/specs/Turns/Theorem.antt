@@ -20,8 +20,8 @@ use Rattle.spec.specs.Code.{notYet, noDepth, noPage}
 use Rattle.spec.specs.State.{State}
 use Rattle.spec.specs.Run.{rowOf, stageOf, idle, run}
 use Rattle.spec.specs.Result.{Told, toldOf, logOf, resultOf, result}
-use Rattle.spec.specs.PlainList.{replyOf, Replay, replay}
-use Rattle.spec.specs.Proper.{NoneTwice, FileOk}
+use Rattle.spec.specs.PlainList.{NoneTwice, replyOf, Replay, replay}
+use Rattle.spec.specs.Proper.{FileOk}
 use Rattle.spec.specs.Claims.{stateAt, FirstTurn, Ended, Waits, times, lineAt, answerAt, opAt, fed, IsFile, Explained}
 use Rattle.laws.specs.Turns.Records.{same-has}
 use Rattle.laws.specs.Turns.Rows.{stage-row, moves-row, code-row}

@@ -11,7 +11,7 @@ place-of-requires : tie.Need-place-of-requires
 place-of-requires c κs = omega arith
 
 move-up-requires : tie.Need-move-up-requires
-move-up-requires c κs = (c .before .place-of .ensures .1, c .before .before .before .before .pre)
+move-up-requires c κs = omega (arith, c .before .place-of .ensures .1)
 
 put-rec-requires : tie.Need-put-rec-requires
 put-rec-requires c κs = omega arith
