@@ -1,7 +1,15 @@
-//! How often each number of refusal was met, for tests that must not pass by
-//! never meeting one.
+//! How often things were met, numbers of refusal among them, for tests that must
+//! not pass by never meeting one.
 
 use std::collections::BTreeMap;
+
+/// Each thing was met at least as often as is wanted: what it is, how often it
+/// was met, and how often at least.
+pub fn all_seen<const N: usize>(wanted: [(&str, usize, usize); N]) {
+    for (what, seen, least) in wanted {
+        assert!(seen >= least, "{what}: {seen}, wanted {least}: {wanted:?}");
+    }
+}
 
 /// The times by number; 0 stands for a job that was accepted.
 #[derive(Clone, Debug, Default)]

@@ -8,7 +8,8 @@ use chargefile_tests::page::{page_length, Page, Record};
 use chargefile_tests::random::Random;
 use chargefile_tests::seeds::{each_seed, few_seeds};
 use chargefile_tests::split::{new_pages_needed, split, Full, Split};
-use states::{calls_to_look_for, every_page, Seen};
+use chargefile_tests::tally::all_seen;
+use states::{among_all, calls_to_look_for, every_page, Seen};
 
 const JOBS: u64 = 6_000;
 const PAGES: u64 = 20_000;
@@ -143,22 +144,16 @@ fn find_in_every_state() {
         every_page(&job, |Seen { page, .. }| {
             let bytes = page.to_bytes(job.file.capacity);
             for call in calls_to_look_for(&job, page) {
-                let there = page.records.iter().filter(|r| r.call == call);
-                let charges: Vec<u64> = there.map(|r| u64::from(r.charge)).collect();
-                assert!(charges.len() <= 1, "call {call} twice in {page:?}");
-                let wanted = charges.first().copied().unwrap_or(MISSING);
+                let there = among_all(page, call);
+                let wanted = there.map_or(MISSING, |r| u64::from(r.charge));
                 assert_eq!(find(&bytes, call), wanted, "{call} in {page:?}");
-                found += usize::from(charges.len() == 1);
-                none += usize::from(charges.is_empty());
+                found += usize::from(there.is_some());
+                none += usize::from(there.is_none());
             }
         });
     });
     if whole {
-        println!("found {found}, none {none}");
-        assert!(
-            found >= 50_000 && none >= 50_000,
-            "found {found}, none {none}"
-        );
+        all_seen([("found", found, 50_000), ("none", none, 50_000)]);
     }
 }
 

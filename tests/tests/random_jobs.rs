@@ -12,6 +12,7 @@ use chargefile_tests::result::{self, Contents};
 use chargefile_tests::run::Run;
 use chargefile_tests::seeds::each_seed;
 use chargefile_tests::shared::Tally;
+use chargefile_tests::tally::all_seen;
 use chargefile_tests::turn::Turned;
 use chargefile_tests::{check, run, Outcome};
 
@@ -66,7 +67,7 @@ impl Seen {
     /// The random jobs are worth nothing if they miss the hard cases.
     fn has_everything(&self) {
         let tally = &self.tally;
-        let wanted = [
+        all_seen([
             ("splits", tally.splits, 20_000),
             ("multi-page splits", tally.multi_page_splits, 5_000),
             ("stored in a new page", tally.stored_in_new_page, 5_000),
@@ -86,10 +87,7 @@ impl Seen {
             ("charge files", self.charge_files, 2_000),
             ("files of one page", self.one_page_files, 1_000),
             ("files of 256 pages", self.files_of_256_pages, 20),
-        ];
-        for (what, seen, least) in wanted {
-            assert!(seen >= least, "{what}: {seen}, wanted {least}: {self:?}");
-        }
+        ]);
         assert_eq!(tally.largest_split, 8, "the largest n is g - l: {self:?}");
         let rarest = self.codes.iter().min().unwrap();
         assert!(*rarest >= 4_000, "codes: {:?}", self.codes);

@@ -15,9 +15,10 @@ use chargefile_tests::random::Random;
 use chargefile_tests::result;
 use chargefile_tests::run::Run;
 use chargefile_tests::seeds::{each_seed, few_seeds};
+use chargefile_tests::tally::all_seen;
 use chargefile_tests::{run, Outcome};
 use linked::Lent;
-use states::{calls_to_look_for, every_page, Seen};
+use states::{among_all, calls_to_look_for, every_page, Seen};
 
 const JOBS: u64 = 24_000;
 /// Jobs that the library runs once for each place where their list can stop.
@@ -60,7 +61,7 @@ impl Met {
 
     fn has_everything(&self) {
         println!("{self:#?}");
-        let wanted = [
+        all_seen([
             ("pages with neighbours", self.with_neighbours, 50_000),
             ("written, but not yet named", self.not_named_yet, 4_000),
             ("added behind all", self.added_last, 4_000),
@@ -70,10 +71,7 @@ impl Met {
                 self.taken_from_before_another,
                 1_000,
             ),
-        ];
-        for (what, seen, least) in wanted {
-            assert!(seen >= least, "{what}: {seen}, wanted {least}");
-        }
+        ]);
     }
 }
 
@@ -123,18 +121,6 @@ fn no_page_is_left_without_an_entry() {
     }
 }
 
-/// Looking at all records of a page.
-fn among_all(page: &Page, call: u32) -> Option<Record> {
-    let found: Vec<Record> = page
-        .records
-        .iter()
-        .filter(|r| r.call == call)
-        .copied()
-        .collect();
-    assert!(found.len() <= 1, "call {call} twice in {page:?}");
-    found.first().copied()
-}
-
 #[test]
 fn looking_may_stop_at_the_first_higher_number() {
     let (mut found, mut stopped, mut to_the_end) = (0, 0, 0);
@@ -152,9 +138,11 @@ fn looking_may_stop_at_the_first_higher_number() {
         });
     });
     if whole {
-        println!("found {found}, stopped {stopped}, looked at all {to_the_end}");
-        let least = found.min(stopped).min(to_the_end);
-        assert!(least >= 100_000, "only {least} of a kind");
+        all_seen([
+            ("found", found, 100_000),
+            ("stopped at a higher number", stopped, 100_000),
+            ("looked at all", to_the_end, 100_000),
+        ]);
     }
 }
 
@@ -208,9 +196,10 @@ fn library_every_file_of_every_stop_rises() {
         }
     });
     if whole {
-        println!("files {files}, not the one that came in {changed}, pages with neighbours {with_neighbours}");
-        assert!(files >= 5_000, "only {files} files");
-        assert!(changed >= 2_000, "only {changed} files that changed");
-        assert!(with_neighbours >= 20_000, "only {with_neighbours} pages");
+        all_seen([
+            ("files", files, 5_000),
+            ("files that are not the one that came in", changed, 2_000),
+            ("pages with neighbours", with_neighbours, 20_000),
+        ]);
     }
 }

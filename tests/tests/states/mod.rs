@@ -3,7 +3,7 @@
 #![allow(dead_code)]
 
 use chargefile_tests::job::Job;
-use chargefile_tests::page::Page;
+use chargefile_tests::page::{Page, Record};
 use chargefile_tests::run::Run;
 
 /// A page as it stands, what it was before if a turn has changed it, and whether an entry names it.
@@ -47,4 +47,16 @@ pub fn calls_to_look_for(job: &Job, page: &Page) -> Vec<u32> {
         .flat_map(|call| [call, call.wrapping_sub(1), call.wrapping_add(1)]);
     let asked = job.operations.iter().map(|operation| operation.call);
     near.chain([0, u32::MAX]).chain(asked).collect()
+}
+
+/// Looking at all records of a page, which has no call twice.
+pub fn among_all(page: &Page, call: u32) -> Option<Record> {
+    let found: Vec<Record> = page
+        .records
+        .iter()
+        .filter(|r| r.call == call)
+        .copied()
+        .collect();
+    assert!(found.len() <= 1, "call {call} twice in {page:?}");
+    found.first().copied()
 }

@@ -8,13 +8,13 @@ use mathlib.Core.Option.{none}
 use native.Mathlib.Omega.{arith}
 use lib.ListN.{length, getD}
 use Rattle.spec.specs.declared.Rec.{Rec}
-use Rattle.spec.specs.Basics.{firstOf, Each, end, next}
+use Rattle.spec.specs.Basics.{firstOf, Each, end}
 use Rattle.spec.specs.File.{Page, File, noRecord, pageAt, pagesInUse}
 use Rattle.spec.specs.Job.{Header}
 use Rattle.spec.specs.Check.{notAbove, badRecord, recordFault, recordFaultIn}
 use Rattle.spec.specs.Proper.{CallsRise, flat, rise, In, PageNo}
-use Rattle.laws.specs.Tools.{each-imp, each-at}
-use Rattle.laws.specs.Turns.CallsRise.{lowest}
+use Rattle.laws.specs.Tools.{each-at}
+use Rattle.laws.specs.Turns.CallsRise.{below-all}
 use Rattle.laws.specs.Codec.Tools.{failed, each-places}
 use Rattle.laws.specs.Codec.Walk.{first-none}
 use Rattle.laws.specs.Codec.InUse.{first-in-use}
@@ -34,7 +34,7 @@ up-rise (r ∷ []) h = rise end flat
 up-rise (r ∷ a ∷ rs) h =
     let low = h 0 (omega arith) in
     let t = up-rise (a ∷ rs) (λ k l. h (suc k) (omega arith)) in
-    rise (next low (each-imp (λ b u. omega arith) (lowest t))) t
+    rise (below-all t low) t
 
 -- as row 8 counts: the first record has none before it
 abbrev AboveLast : List Rec → ℕ → Type 0

@@ -73,11 +73,15 @@ put-has (a ∷ rs) r x =
 
 -- ---- rising calls
 
-pub lowest : {r : Rec} {rs : List Rec} → CallsRise (r ∷ rs) → Each (λ a. r .call < a .call) rs
+lowest : {r : Rec} {rs : List Rec} → CallsRise (r ∷ rs) → Each (λ a. r .call < a .call) rs
 lowest (rise l h) = l
 
 risen : {r : Rec} {rs : List Rec} → CallsRise (r ∷ rs) → CallsRise rs
 risen (rise l h) = h
+
+-- what is below the first is below all
+pub below-all : {k : ℕ} {r : Rec} {rs : List Rec} → CallsRise (r ∷ rs) → k < r .call → Each (λ a. k < a .call) (r ∷ rs)
+below-all h l = next l (each-imp (λ a u. omega arith) (lowest h))
 
 -- a call below all of them is not among them
 low-none : (rs : List Rec) (k : ℕ) → Each (λ a. k < a .call) rs → findIn rs k ≡ none
@@ -95,7 +99,7 @@ unfolding putIn
 put-rise [] r h n = rise end flat
 put-rise (a ∷ rs) r h n =
     let apart = none-head a rs (r .call) n in
-    put-case CallsRise a rs r (λ l. rise (next l (each-imp (λ b u. omega arith) (lowest h))) h)
+    put-case CallsRise a rs r (λ l. rise (below-all h l) h)
     (λ l. rise (put-each rs r (lowest h) (omega (arith, apart))) (put-rise rs r (risen h) (none-tail a rs (r .call) n)))
 
 pub filter-rise : (f : Rec → Bool) (rs : List Rec) → CallsRise rs → CallsRise (filter f rs)
@@ -128,5 +132,5 @@ unfolding lookIn findIn
 look-find [] k h = refl
 look-find (r ∷ rs) k h =
     if-case (λ o. o ≡ findIn (r ∷ rs) k)
-    (λ e. let l = ltb-true _ _ e in sym (low-none (r ∷ rs) k (next l (each-imp (λ a u. omega arith) (lowest h)))))
+    (λ e. sym (low-none (r ∷ rs) k (below-all h (ltb-true _ _ e))))
     (λ e. ap (if _ (some r)) (look-find rs k (risen h)))
