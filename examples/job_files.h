@@ -1,4 +1,4 @@
-/* What next_month.c and new_job.c share: inputs, outputs, numbers, and how a refusal is told. */
+/* What the programs of this folder share: inputs, outputs, numbers, and how a refusal is told. */
 #ifndef JOB_FILES_H
 #define JOB_FILES_H
 

@@ -12,12 +12,13 @@ use chargefile_tests::vectors;
 use chargefile_tests::{check, report};
 
 /// The files of the folder that no program writes.
-const BY_HAND: [&str; 5] = [
+const BY_HAND: [&str; 6] = [
     "README.md",
     "april.ops",
     "job_files.h",
     "new_job.c",
     "next_month.c",
+    "put_in_order.c",
 ];
 
 fn folder() -> PathBuf {

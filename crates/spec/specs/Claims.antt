@@ -1,5 +1,5 @@
 -- Demand 3 as one record, `Explained`, of a job and a result; and what is claimed: it holds for every accepted job, given as bytes, and the result
--- that is read from the bytes that are written. Definitions only.
+-- that is read from the bytes that are written. Then, for every accepted job, that calls rise in every page, `InOrder`. Definitions only.
 use Prim.Native.Nat.{ℕ, suc, _<_, _≤_}
 use mathlib.Core.Path.{_≡_}
 use mathlib.Core.Logic.{_⊎_, _↔_}

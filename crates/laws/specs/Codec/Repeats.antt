@@ -72,8 +72,8 @@ module _ (place : ℕ) (p : Page) where
           by-cases (ℕ-discrete q k) (λ (i : q ≡ k). rw i e)
           (λ n. or-no _ _ .0 (when-none _ _ .0 (before q (omega (arith, n)))) .0)
 
-  page-told : firstOf (earlierFault place p) 0 (p .records) ≡ firstOf (recordFault place p) 0 (p .records)
-  page-told = first-agree (earlierFault place p) (recordFault place p) (p .records) noRecord same-fault
+  same-in-page : firstOf (earlierFault place p) 0 (p .records) ≡ firstOf (recordFault place p) 0 (p .records)
+  same-in-page = first-agree (earlierFault place p) (recordFault place p) (p .records) noRecord same-fault
 
 -- of all pages in use
 unfoldable pub wrongOrEarlier : List ℕ → Option ℕ
@@ -84,4 +84,4 @@ wrongOrEarlier b =
 -- THE PLACE IS THE SAME
 pub repeats-told : (b : List ℕ) → wrongOrEarlier b ≡ wrongRecord b
 unfolding wrongOrEarlier wrongRecord recordFaultIn
-repeats-told b = λ i. firstOf (λ x p. page-told (pagePlace (headerOf b) x) p i) 1 (pagesInUse (fileOf b))
+repeats-told b = λ i. firstOf (λ x p. same-in-page (pagePlace (headerOf b) x) p i) 1 (pagesInUse (fileOf b))
