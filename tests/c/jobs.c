@@ -110,6 +110,17 @@ void put_page(job *j, unsigned page, unsigned depth, unsigned pattern, const rec
     }
 }
 
+void make_split_twice(job *j, unsigned capacity)
+{
+    counts c = {2, capacity, 3, 3, 0, 0};
+    make_job(j, c);
+    put_entry(j, 0, 1);
+    put_entry(j, 1, 1);
+    put_entry(j, 2, 2);
+    put_entry(j, 3, 3);
+    put_page(j, 1, 1, 0, NULL, 0);
+}
+
 uint32_t charge_of(uint32_t call)
 {
     return ~call;

@@ -53,6 +53,11 @@ void put_page(job *j, unsigned page, unsigned depth, unsigned pattern, const rec
  * order to a call. */
 uint32_t charge_of(uint32_t call);
 
+/* The charge file that one insert leaves which splits the only page, of depth 0, twice: entries 0 and
+ * 1 name page 1, which has no record, entry 2 names page 2 and entry 3 page 3. Pages 2 and 3, of
+ * depth 2, are still to be put. */
+void make_split_twice(job *j, unsigned capacity);
+
 /* A page with these calls, each with its own charge. */
 void put_calls(job *j, unsigned page, unsigned depth, unsigned pattern, const uint32_t *calls,
                unsigned count);

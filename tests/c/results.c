@@ -92,13 +92,7 @@ static void insert_3_needs_two_pages(void)
     static const record moved[2] = {{1, 10}, {5, 20}};
     static const record stored[1] = {{3, 30}};
     static job wanted;
-    counts c = {2, 2, 3, 3, 0, 0};
-    make_job(&wanted, c);
-    put_entry(&wanted, 0, 1);
-    put_entry(&wanted, 1, 1);
-    put_entry(&wanted, 2, 2);
-    put_entry(&wanted, 3, 3);
-    put_page(&wanted, 1, 1, 0, NULL, 0);
+    make_split_twice(&wanted, 2);
     put_page(&wanted, 2, 2, 2, moved, 2);
     put_page(&wanted, 3, 2, 3, stored, 1);
     expect_on_full_page(3, CHARGEFILE_INSERT, 3, (answer){CHARGEFILE_STORED, 4 + 2 + 2 + 3, 30});

@@ -120,17 +120,12 @@ static void expect_split(const split *of)
 static void two_splits(void)
 {
     static const calls before = {3, {5, 7, 9}}, moved = {3, {1, 5, 9}}, parted = {1, {7}};
-    counts c = {2, 3, 3, 1, 1, 20}, file = {2, 3, 3, 3, 0, 0};
+    counts c = {2, 3, 3, 1, 1, 20};
     make_one(c, &before, CHARGEFILE_INSERT, 1);
     expect_run(&j, 0);
     expect_answer(0, (answer){CHARGEFILE_STORED, 4 + 2 + 2 + 3, charge_of(1)});
     expect_line(0, 6, 0);
-    make_job(&wanted, file);
-    put_entry(&wanted, 0, 1);
-    put_entry(&wanted, 1, 1);
-    put_entry(&wanted, 2, 2);
-    put_entry(&wanted, 3, 3);
-    put_page(&wanted, 1, 1, 0, NULL, 0);
+    make_split_twice(&wanted, 3);
     put_list(&wanted, 2, 2, 2, &moved);
     put_list(&wanted, 3, 2, 3, &parted);
     expect_file(&wanted);

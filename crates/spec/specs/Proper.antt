@@ -1,4 +1,4 @@
--- What the file of an accepted job is: rows 3, 5, 6, 7 and 8 of the refusal table, as properties of the file.
+-- What the file of an accepted job is: rows 3, 5, 12, 6, 13, 7 and 8 of the refusal table, as properties of the file.
 use Prim.Native.Nat.{ℕ, suc, _^_, _<_, _≤_}
 use mathlib.Core.Path.{_≡_}
 use mathlib.Core.List.{List, [], _∷_}
