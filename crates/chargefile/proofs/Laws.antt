@@ -5,10 +5,10 @@ use mathlib.Core.Logic.{_↔_}
 use mathlib.Core.List.{List}
 use mathlib.Core.Option.{Option, none, some, Option·none-ne-some}
 use Rattle.spec.specs.declared.Outcome.{Outcome}
-use Rattle.spec.specs.declared.Outcome.the-variants.{Ran, Refused}
+use Rattle.spec.specs.declared.Outcome.the-variants.{Done, Refused}
 use Rattle.spec.specs.Check.{Fault, jobFault, firstFault}
 use Rattle.spec.specs.Cases.{checkedOf}
-use Rattle.spec.specs.Outcome.{outcomeBy, outcome}
+use Rattle.spec.specs.Outcome.{resultBytes, outcomeBy, outcome}
 use Rattle.laws.specs.Codec.Numbered.{Numbered, job-numbered, first-numbered}
 use Rattle.turn.specs.declared.Row.{Row}
 use Rattle.run.specs.Call.{lent, Settled}
@@ -19,7 +19,7 @@ use Rattle.chargefile.specs.Called.{CheckCalled, Called}
 -- an outcome that goes by a fault, whose number is not 0
 zero-none
     : (o : Option Fault) (by : Option Fault → Outcome) {k : ℕ}
-    → by none ≡ Ran k
+    → by none ≡ Done k
     → ((f : Fault) → by (some f) ≡ Refused (f .number) (f .place))
     → Numbered o
     → (handed (by o) .refusal ≡ 0) ↔ (o ≡ none)
@@ -35,7 +35,7 @@ check-zero b = zero-none (jobFault b) (λ o. outcomeOf (checkedOf o)) refl (λ f
 module _ (b s : List ℕ) (x : List Row) (w : List ℕ) where
   run-zero : (handed (outcome (lent s x w) b) .refusal ≡ 0) ↔ (firstFault (lent s x w) b ≡ none)
   unfolding outcome outcomeBy
-  run-zero = zero-none (firstFault (lent s x w) b) (λ o. outcomeBy o b) refl (λ f. refl) (first-numbered (lent s x w) b)
+  run-zero = zero-none (firstFault (lent s x w) b) (λ o. outcomeBy o (resultBytes b)) refl (λ f. refl) (first-numbered (lent s x w) b)
 
 -- a check's answer, handed over
 pub check-called : (b : List ℕ) {r : CallOutcome} → r ≡ handed (outcomeOf (checkedOf (jobFault b))) → CheckCalled b r

@@ -20,7 +20,7 @@ fn handed(o: Outcome) -> CallOutcome
     ensures { λ r. ⌜ r ≡ handed o ⌝ }
 {
     match o {
-        Outcome::Ran(length) => CallOutcome {
+        Outcome::Done(length) => CallOutcome {
             refusal: 0,
             place: 0,
             length: length as u64,
@@ -38,7 +38,7 @@ fn outcome_of(c: Checked) -> Outcome
     ensures { λ r. ⌜ r ≡ outcomeOf c ⌝ }
 {
     match c {
-        Checked::Accepted => Outcome::Ran(0),
+        Checked::Accepted => Outcome::Done(0),
         Checked::Refused(number, place) => Outcome::Refused(number, place),
     }
 }

@@ -12,6 +12,9 @@ pub mod ReadBack
 pub mod Demand3
 pub mod InOrder
 pub mod Room
+-- tidying: which pages are left, in whatever order they are joined; the tidied file; months one after another
+pub mod Tidy
+pub mod Months
 -- the claims weighed: each field as a test that computes, which some wrong machine fails; a failed test refutes the claim
 pub mod Weighed
 pub mod Refutes

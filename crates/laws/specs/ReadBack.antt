@@ -10,7 +10,7 @@ use Rattle.spec.specs.declared.Op.{Op}
 use Rattle.spec.specs.Basics.{Each, end}
 use Rattle.spec.specs.Bytes.{AreBytes}
 use Rattle.spec.specs.File.{File}
-use Rattle.spec.specs.Job.{Job, noOp}
+use Rattle.spec.specs.Job.{Job, fileJob, noOp}
 use Rattle.spec.specs.Encode.{encodeFile}
 use Rattle.spec.specs.Decode.{jobOf}
 use Rattle.spec.specs.State.{Row, gone}
@@ -26,7 +26,8 @@ use Rattle.laws.specs.Codec.Tools.{each-map, each-places}
 use Rattle.laws.specs.Codec.Back.{RecFits}
 use Rattle.laws.specs.Codec.InUse.{any-page}
 use Rattle.laws.specs.Codec.Exact.{accepted-proper}
-use Rattle.laws.specs.Codec.Proper.{RecordsFit, OpProper, JobProper}
+use Rattle.laws.specs.Codec.Proper.{RecordsFit, OpProper, JobProper, file-proper}
+use Rattle.laws.specs.Codec.AsBytes.{written-bytes}
 use Rattle.laws.specs.Codec.Written.{file-accepted, file-comes-back}
 use Rattle.laws.specs.Codec.ResultBack.{ToldFits, LineFits, ResultFits, result-back}
 use Rattle.laws.specs.Turns.Whole.{Whole, end-whole}
@@ -81,9 +82,12 @@ module _ (b : List ℕ) (bytes : AreBytes b) (accepted : jobFault b ≡ none) wh
   w : Whole j (run j)
   w = end-whole j (proper .file)
 
-  -- THE CHARGE FILE in the result is accepted as a job, with no fault about its bytes, and is the file after the last turn
-  pub read-back : (f : List ℕ) → result j .file ≡ some f → IsFile f (run j .file)
-  read-back f e = rw (← is-that) (file-accepted (run j .file) ok fits, file-comes-back (run j .file) ok fits)
+  -- THE CHARGE FILE in the result is bytes, accepted as a job with no fault about them, and is the file after the last turn
+  filed : (f : List ℕ) → result j .file ≡ some f → AreBytes f × IsFile f (run j .file)
+  unfolding encodeFile
+  filed f e =
+      rw (← is-that)
+      (written-bytes (fileJob (run j .file)) (file-proper (run j .file) ok fits), (file-accepted (run j .file) ok fits, file-comes-back (run j .file) ok fits))
     where
       ended : result j .unended ≡ 0
       ended = filed-ended j f e
@@ -96,6 +100,12 @@ module _ (b : List ℕ) (bytes : AreBytes b) (accepted : jobFault b ≡ none) wh
 
       is-that : encodeFile (run j .file) ≡ f
       is-that = Option·some-injective _ _ (sym (final-file j ended) ∙ e)
+
+  pub file-bytes : (f : List ℕ) → result j .file ≡ some f → AreBytes f
+  file-bytes f e = filed f e .0
+
+  pub read-back : (f : List ℕ) → result j .file ≡ some f → IsFile f (run j .file)
+  read-back f e = filed f e .1
 
   -- the numbers of the result fit their fields
   answers-fit : Each ToldFits (map toldOf (run j .rows))

@@ -7,12 +7,12 @@ use native.Mathlib.Omega.{arith}
 use lib.ListN.{length, take, drop, replicate, length-append}
 use lib.Seq.{take-at, take-all}
 use Rattle.spec.specs.declared.Outcome.{Outcome}
-use Rattle.spec.specs.declared.Outcome.the-variants.{Ran, Refused}
+use Rattle.spec.specs.declared.Outcome.the-variants.{Done, Refused}
 use Rattle.spec.specs.Bytes.{AreBytes}
 use Rattle.spec.specs.Decode.{jobOf}
 use Rattle.spec.specs.Result.{result}
 use Rattle.spec.specs.Check.{Fault, jobFault, firstFault}
-use Rattle.spec.specs.Outcome.{resultBytes, outcomeBy, outcome, afterRun, bufferAfter, rowsAfter}
+use Rattle.spec.specs.Outcome.{resultBytes, outcomeBy, outcome, afterCall, bufferBy, bufferAfter, rowsAfter}
 use Rattle.spec.specs.Report.{refusedLine, printedBy, printed}
 use Rattle.laws.specs.Codec.Tools.{orElse-none}
 use Rattle.laws.specs.Codec.ResultBack.{ResultFits}
@@ -35,19 +35,19 @@ stands {s = s} {x = x} room w =
     record { count = omega (arith, w .stop); bytes = rw (w .stop) (w .bytes ∙ over-parts x s 0 (omega (arith, w .stop, w .near))) }
 
 -- the cases of an outcome
-ran-by : (o : Option Fault) (b : List ℕ) (n : ℕ) → Ran n ≡ outcomeBy o b → (o ≡ none) × (n ≡ length (resultBytes b))
+ran-by : (o : Option Fault) (s : List ℕ) (n : ℕ) → Done n ≡ outcomeBy o s → (o ≡ none) × (n ≡ length s)
 unfolding outcomeBy
-ran-by none b n e = let z : n ≡ length (resultBytes b) = cc in (refl, z)
-ran-by (some f) b n e = let z : _≡_ {A = ℕ} 0 1 = cc in absurd (omega arith)
+ran-by none s n e = let z : n ≡ length s = cc in (refl, z)
+ran-by (some f) s n e = let z : _≡_ {A = ℕ} 0 1 = cc in absurd (omega arith)
 
-refused-by : (o : Option Fault) (b : List ℕ) (n p : ℕ) → Refused n p ≡ outcomeBy o b → o ≡ some (record { number = n; place = p })
+refused-by : (o : Option Fault) (s : List ℕ) (n p : ℕ) → Refused n p ≡ outcomeBy o s → o ≡ some (record { number = n; place = p })
 unfolding outcomeBy
-refused-by none b n p e = let z : _≡_ {A = ℕ} 0 1 = cc in absurd (omega arith)
-refused-by (some f) b n p e = let z : n ≡ f .number = cc in let q : p ≡ f .place = cc in rw (z, q)
+refused-by none s n p e = let z : _≡_ {A = ℕ} 0 1 = cc in absurd (omega arith)
+refused-by (some f) s n p e = let z : n ≡ f .number = cc in let q : p ≡ f .place = cc in rw (z, q)
 
 -- A TABLE THAT WAS BLANK IS BLANK AGAIN, whether the job ran or was refused
-blank-again : (o : Option Fault) → afterRun o fullTable (replicate (length fullTable) blankRow) ≡ fullTable
-unfolding afterRun
+blank-again : (o : Option Fault) → afterCall o fullTable (replicate (length fullTable) blankRow) ≡ fullTable
+unfolding afterCall
 blank-again none = refl
 blank-again (some f) = refl
 
@@ -61,17 +61,17 @@ settled-here {b} {s} {t} {y} {w} {u} {r} call =
 
 module _ {b s t : List ℕ} {x y : List Row} {w u : List ℕ} {r : Outcome} (call : Settled b s t x y w u r) where
   -- A JOB THAT RAN: n bytes of result
-  module _ {n : ℕ} (ran : r ≡ Ran n) where
+  module _ {n : ℕ} (ran : r ≡ Done n) where
     cases : (firstFault (lent s x w) b ≡ none) × (n ≡ length (resultBytes b))
     unfolding outcome
-    cases = ran-by (firstFault (lent s x w) b) b n (sym ran ∙ call .answer)
+    cases = ran-by (firstFault (lent s x w) b) (resultBytes b) n (sym ran ∙ call .answer)
 
     accepted : jobFault b ≡ none
     unfolding firstFault
     accepted = orElse-none _ _ .0 (cases .0) .0
 
     whole : t ≡ resultBytes b ++ drop (length (resultBytes b)) s
-    unfolding bufferAfter afterRun
+    unfolding bufferBy bufferAfter afterCall
     whole = rw (cases .0) at (call .result)
 
     pub ran-fits : n ≤ length t
@@ -106,7 +106,7 @@ module _ {b s t : List ℕ} {x y : List Row} {w u : List ℕ} {r : Outcome} (cal
   module _ {number place : ℕ} (refused : r ≡ Refused number place) where
     fault : firstFault (lent s x w) b ≡ some (record { number = number; place = place })
     unfolding outcome
-    fault = refused-by (firstFault (lent s x w) b) b number place (sym refused ∙ call .answer)
+    fault = refused-by (firstFault (lent s x w) b) (resultBytes b) number place (sym refused ∙ call .answer)
 
     pub refused-printed
         : {k m : ℕ} {o p : List ℕ}

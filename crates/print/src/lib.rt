@@ -40,7 +40,7 @@ pub fn print(job: &[u8], result: &mut [u8], work: &mut [u8], out: &mut [u8]) -> 
     }
     let o = run_here(job, result, work);
     match o {
-        Outcome::Ran(length) => Printed::Text(report::report(out, job, &result[..length])),
+        Outcome::Done(length) => Printed::Text(report::report(out, job, &result[..length])),
         Outcome::Refused(number, place) => Printed::Text(report::refused(out, number, place)),
     }
 }

@@ -9,13 +9,13 @@ use lib.ListN.{length, drop}
 use Rattle.spec.specs.declared.Spot.the-variants.{At, Nowhere}
 use Rattle.spec.specs.declared.Stage.the-variants.{NotBegun}
 use Rattle.spec.specs.declared.Checked.the-variants.{Accepted as AcceptedBy, Refused as RefusedBy}
-use Rattle.spec.specs.declared.Outcome.the-variants.{Ran as RanFor}
+use Rattle.spec.specs.declared.Outcome.the-variants.{Done}
 use Rattle.spec.specs.Basics.{if, orElse}
 use Rattle.spec.specs.Decode.{headerOf, jobOf}
 use Rattle.spec.specs.Result.{Result, result, readResult}
 use Rattle.spec.specs.Check.{Lent, Fault, workSize, resultSize, smallOutput, numbered, jobFault, firstFault}
 use Rattle.spec.specs.Cases.{spotOf, checkedOf}
-use Rattle.spec.specs.Outcome.{resultBytes, outcomeBy, outcome, afterRun, bufferAfter, rowsAfter, workAfter}
+use Rattle.spec.specs.Outcome.{resultBytes, outcomeBy, outcome, afterCall, bufferBy, bufferAfter, rowsAfter, workAfter}
 use Rattle.laws.specs.Codec.Tools.{failed, among-none, among-end}
 use Rattle.laws.specs.Codec.Sizes.{bytes-total}
 use Rattle.laws.specs.ReadBack.{reads}
@@ -96,17 +96,17 @@ module _ {b s : List ℕ} {x : List Row} {w : List ℕ} (a : Accepted b s x w) w
   enough h c = let z = simp (failed, among-none, among-end) at (neither .1) in (rw c (z .0), rw (← c) at (z .1 .0), z .1 .1 .0)
 
   -- demand 3 of what is written
-  written : {t : List ℕ} {y : List Row} {u : List ℕ} {v : ℕ} → Ran b s t x y w u v → Written b t (RanFor v)
+  written : {t : List ℕ} {y : List Row} {u : List ℕ} {v : ℕ} → Ran b s t x y w u v → Written b t (Done v)
   written {t} {v = v} r =
       let back : readResult t ≡ result (jobOf b) = rw (r .result) (reads b (a .bytes) faultless (drop (length (resultBytes b)) s)) in
       record {
         reads = back;
-        total = ap RanFor (r .total ∙ bytes-total b ∙ sym (ap (λ (z : Result). z .total) back));
+        total = ap Done (r .total ∙ bytes-total b ∙ sym (ap (λ (z : Result). z .total) back));
         explained = rw (r .result) (demand3 b (drop (length (resultBytes b)) s) (a .bytes) faultless);
       }
 
-  pub ran : {t : List ℕ} {y : List Row} {u : List ℕ} {v : ℕ} → Ran b s t x y w u v → Settled b s t x y w u (RanFor v)
-  unfolding outcome outcomeBy bufferAfter rowsAfter workAfter afterRun
+  pub ran : {t : List ℕ} {y : List Row} {u : List ℕ} {v : ℕ} → Ran b s t x y w u v → Settled b s t x y w u (Done v)
+  unfolding outcome outcomeBy bufferBy bufferAfter rowsAfter workAfter afterCall
   ran r =
       let e = a .faultless in
       record {
@@ -125,7 +125,7 @@ refused-by
     → firstFault (lent s x w) b ≡ f
     → isAccepted (checkedOf f) ≡ false
     → Settled b s s x x w w (refusedBy (checkedOf f))
-unfolding isAccepted refusedBy checkedOf outcome outcomeBy bufferAfter rowsAfter workAfter afterRun
+unfolding isAccepted refusedBy checkedOf outcome outcomeBy bufferBy bufferAfter rowsAfter workAfter afterCall
 refused-by b s x w none q e = absurd (true-false e)
 refused-by b s x w (some f) q e =
     record { answer = rw q; result = rw q; rows = rw q; work = rw q; fixed = (sym blank-row, blank-stage); written = λ z. absurd (some-none (sym q ∙ z)) }

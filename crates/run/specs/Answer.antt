@@ -4,7 +4,7 @@ use Prim.Native.Nat.{ℕ}
 use Rattle.spec.specs.declared.Checked.{Checked}
 use Rattle.spec.specs.declared.Checked.the-variants.{Accepted, Refused}
 use Rattle.spec.specs.declared.Outcome.{Outcome}
-use Rattle.spec.specs.declared.Outcome.the-variants.{Ran as RanFor, Refused as RefusedFor}
+use Rattle.spec.specs.declared.Outcome.the-variants.{Done as DoneFor, Refused as RefusedFor}
 
 unfoldable pub isAccepted : Checked → Bool
 isAccepted Accepted = true
@@ -15,4 +15,4 @@ refusedBy Accepted = RefusedFor 0 0
 refusedBy (Refused n p) = RefusedFor n p
 
 abbrev pub ranFor : ℕ → Outcome
-ranFor v = RanFor v
+ranFor v = DoneFor v

@@ -5,7 +5,7 @@ use mathlib.Core.Option.{none}
 use Prim.Native.Nat.{ℕ}
 use lib.ListN.{length, drop, replicate}
 use Rattle.spec.specs.declared.Outcome.{Outcome}
-use Rattle.spec.specs.declared.Outcome.the-variants.{Ran as RanFor}
+use Rattle.spec.specs.declared.Outcome.the-variants.{Done}
 use Rattle.spec.specs.declared.Stage.the-variants.{NotBegun}
 use Rattle.spec.specs.Decode.{jobOf}
 use Rattle.spec.specs.State.{blank}
@@ -38,7 +38,7 @@ pub record Written (b t : List ℕ) (r : Outcome) : Type 0 where
   -- what is read from the buffer is the job's result: each number fits its field
   pub reads : readResult t ≡ result (jobOf b)
   -- the total in its header is the length that is told
-  pub total : r ≡ RanFor (readResult t .total)
+  pub total : r ≡ Done (readResult t .total)
   -- its log explains every answer
   pub explained : Explained (jobOf b) (readResult t)
 

@@ -153,7 +153,7 @@ fn run_accepted(job: &[u8], result: &mut [u8], rows: &mut [Row], work: &mut [u8]
 fn ran(total: usize) -> Outcome
     ensures { λ r. ⌜ r ≡ ranFor total ⌝ }
 {
-    Outcome::Ran(total)
+    Outcome::Done(total)
 }
 
 // THE LIBRARY: any bytes, and any lent result buffer, table and working memory.

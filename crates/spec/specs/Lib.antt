@@ -25,11 +25,16 @@ pub mod Outcome
 pub mod Cases
 -- "Jobs worked through"
 pub mod Report
+-- "Tidying between runs"
+pub mod Tidy
 -- what is claimed
 pub mod Proper
 pub mod Claims
--- by computation: the marked items, the refusal table
+pub mod Tidied
+pub mod Months
+-- by computation: the marked items, the refusal table, files tidied
 pub mod Opened
 pub mod Worked
 pub mod Marked
 pub mod Refusals
+pub mod Tidying

@@ -6,7 +6,7 @@ use mathlib.Core.List.{List, [], _∷_, _++_, map}
 use lib.ListN.{length, drop, replicate}
 use Rattle.spec.specs.declared.Rec.{Rec}
 use Rattle.spec.specs.declared.Outcome.{Outcome}
-use Rattle.spec.specs.declared.Outcome.the-variants.{Ran, Refused}
+use Rattle.spec.specs.declared.Outcome.the-variants.{Done, Refused}
 use Rattle.spec.specs.Key.{pseudoKey}
 use Rattle.spec.specs.File.{contents}
 use Rattle.spec.specs.Decode.{jobOf}
@@ -59,7 +59,7 @@ a ⇒ p = record { asked = a; paper = p }
 
 -- a result written over the lent buffer; and a refused job's, which is not written
 abbrev ran : List ℕ → Said
-ran r = ends (Ran (length r)) (r ++ drop (length r) buffer)
+ran r = ends (Done (length r)) (r ++ drop (length r) buffer)
 
 abbrev refused : ℕ → ℕ → Said
 refused n p = ends (Refused n p) buffer

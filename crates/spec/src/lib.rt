@@ -70,8 +70,8 @@ pub enum Checked {
     Refused(usize, usize),
 }
 
-// What a job comes to: run, with the length of its result; or refused, with number and place.
+// What a call comes to: done, with the length of its output; or refused, with number and place.
 pub enum Outcome {
-    Ran(usize),
+    Done(usize),
     Refused(usize, usize),
 }

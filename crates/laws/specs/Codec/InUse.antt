@@ -24,11 +24,11 @@ pub any-page : (f : File) (P : Page → Type 0) → FileOk f → P zeroPage → 
 any-page f P ok zeroed used x = by-cases (Dec·and (decLe 1 x) (decLe x (f .used))) (used x) (λ n. rw (ok .unused x n) zeroed)
 
 module _ (f : File) (within : f .used ≤ f .limit) (size : length (f .table) ≡ suc (f .limit)) where
-  length-in-use : length (pagesInUse f) ≡ f .used
+  pub length-in-use : length (pagesInUse f) ≡ f .used
   unfolding pagesInUse
   length-in-use = length-take-le (f .used) (drop 1 (f .table)) (rw length-drop (omega arith))
 
-  in-use-at : (k : ℕ) → k < f .used → getD (pagesInUse f) k zeroPage ≡ pageAt f (suc k)
+  pub in-use-at : (k : ℕ) → k < f .used → getD (pagesInUse f) k zeroPage ≡ pageAt f (suc k)
   unfolding pagesInUse
   in-use-at k l = getD-take (f .used) (drop 1 (f .table)) k zeroPage l ∙ page-behind f k
 

@@ -2,11 +2,12 @@
 -- lets through rises too, no call is twice in such a list, and looking may stop at the first higher number.
 use Prim.Native.Nat.{ℕ, suc, _<_, _≤_}
 use mathlib.Core.Path.{_≡_, refl, sym, ap, _∙_}
-use mathlib.Core.Logic.{_↔_, Iff·rfl}
+use mathlib.Core.Logic.{_↔_, Iff·rfl, by-cases}
 use mathlib.Core.List.{List, [], _∷_}
 use mathlib.Core.Bool.{Bool}
-use mathlib.Core.Option.{none, some}
+use mathlib.Core.Option.{none, some, Option·some-injective}
 use native.Mathlib.Omega.{arith}
+use native.Mathlib.Decide.{ℕ-discrete, decLt}
 use lib.ListN.{length}
 use borrow.Author.Tests.{ltb-true, ltb-false, lt-ltb, le-ltb, eq-eqb, ne-eqb}
 use Rattle.spec.specs.declared.Rec.{Rec}
@@ -83,8 +84,12 @@ risen (rise l h) = h
 pub below-all : {k : ℕ} {r : Rec} {rs : List Rec} → CallsRise (r ∷ rs) → k < r .call → Each (λ a. k < a .call) (r ∷ rs)
 below-all h l = next l (each-imp (λ a u. omega arith) (lowest h))
 
+-- the first is found
+found-none : (r : Rec) (rs : List Rec) → findIn (r ∷ rs) (r .call) ≡ none → ⊥
+found-none r rs e = none-head r rs (r .call) e refl
+
 -- a call below all of them is not among them
-low-none : (rs : List Rec) (k : ℕ) → Each (λ a. k < a .call) rs → findIn rs k ≡ none
+pub low-none : (rs : List Rec) (k : ℕ) → Each (λ a. k < a .call) rs → findIn rs k ≡ none
 low-none [] k h = find-nil k
 low-none (a ∷ rs) k h = let l = first h in find-miss a rs k (λ e. omega arith) ∙ low-none rs k (rest h)
 
@@ -92,6 +97,45 @@ low-none (a ∷ rs) k h = let l = first h in find-miss a rs k (λ e. omega arith
 pub rise-once : (rs : List Rec) → CallsRise rs → NoneTwice rs
 rise-once [] h = empty
 rise-once (r ∷ rs) h = more (low-none rs (r .call) (lowest h)) (rise-once rs (risen h))
+
+-- THERE IS ONE WAY TO STAND IN ORDER: rising lists in which the same is found are the same list
+pub rise-same : (xs ys : List Rec) → CallsRise xs → CallsRise ys → ((k : ℕ) → findIn xs k ≡ findIn ys k) → xs ≡ ys
+rise-same [] [] h i e = refl
+rise-same [] (y ∷ ys) h i e = absurd (found-none y ys (sym (e (y .call)) ∙ find-nil (y .call)))
+rise-same (x ∷ xs) [] h i e = absurd (found-none x xs (e (x .call) ∙ find-nil (x .call)))
+rise-same (x ∷ xs) (y ∷ ys) h i e =
+    let same = head-same x y xs ys h i e in
+    rw (same, rise-same xs ys (risen h) (risen i) (tail-same x y xs ys same h i e))
+  where
+    head-same
+        : (x y : Rec) (xs ys : List Rec)
+        → CallsRise (x ∷ xs)
+        → CallsRise (y ∷ ys)
+        → ((k : ℕ) → findIn (x ∷ xs) k ≡ findIn (y ∷ ys) k)
+        → x ≡ y
+    head-same x y xs ys h i e =
+        by-cases (decLt (x .call) (y .call))
+        (λ l. absurd (found-none x xs (e (x .call) ∙ low-none (y ∷ ys) (x .call) (below-all i l))))
+        (λ l.
+        by-cases (decLt (y .call) (x .call))
+        (λ m. absurd (found-none y ys (sym (e (y .call)) ∙ low-none (x ∷ xs) (y .call) (below-all h m))))
+        (λ m.
+        let q : y .call ≡ x .call = omega arith in
+        Option·some-injective _ _ (sym (find-hit x xs (x .call) refl) ∙ e (x .call) ∙ find-hit y ys (x .call) q)))
+
+    tail-same
+        : (x y : Rec) (xs ys : List Rec)
+        → x ≡ y
+        → CallsRise (x ∷ xs)
+        → CallsRise (y ∷ ys)
+        → ((k : ℕ) → findIn (x ∷ xs) k ≡ findIn (y ∷ ys) k)
+        → (k : ℕ)
+        → findIn xs k ≡ findIn ys k
+    tail-same x y xs ys same h i e k =
+        by-cases (ℕ-discrete (x .call) k)
+        (λ (z : x .call ≡ k).
+        rw (← z) (low-none xs (x .call) (lowest h) ∙ sym (rw (← same) at (low-none ys (y .call) (lowest i)))))
+        (λ z. sym (find-miss x xs k z) ∙ e k ∙ find-miss y ys k (λ q. z (ap (λ r. r .call) same ∙ q)))
 
 -- INSERT, SPLIT AND DELETE KEEP THE ORDER
 pub put-rise : (rs : List Rec) (r : Rec) → CallsRise rs → findIn rs (r .call) ≡ none → CallsRise (putIn rs r)

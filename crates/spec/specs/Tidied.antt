@@ -1,0 +1,56 @@
+-- What is claimed of a charge file that is tidied at a depth, and not refused. Definitions only.
+use Prim.Native.Nat.{ℕ, _^_, _≤_, _<_}
+use mathlib.Core.Path.{_≡_}
+use mathlib.Core.Logic.{_↔_}
+use mathlib.Core.List.{List, _++_}
+use mathlib.Core.Option.{none}
+use lib.ListN.{length}
+use Rattle.spec.specs.declared.Rec.{Rec}
+use Rattle.spec.specs.Basics.{Has}
+use Rattle.spec.specs.Bytes.{AreBytes}
+use Rattle.spec.specs.File.{Page, File, entryAt, pagesInUse, contents}
+use Rattle.spec.specs.Decode.{fileOf, jobOf}
+use Rattle.spec.specs.Result.{readResult}
+use Rattle.spec.specs.Outcome.{resultBytes}
+use Rattle.spec.specs.PlainList.{NoneTwice}
+use Rattle.spec.specs.Tidy.{NoPair, Same, Joins, pagesLeft, tidyFile, tidyBytes, tidyFault}
+use Rattle.spec.specs.Claims.{Accepted, IsFile, Explained}
+
+-- the longest charge file: depth 8, capacity 8, 256 pages
+abbrev pub longest : ℕ
+longest = 17952
+
+-- The pages that are left of a file, however they are joined.
+pub record Joined (f : File) : Type 0 where
+  -- they come of the file's pages by joins, one after another
+  pub reached : Joins (f .c) (pagesInUse f) (pagesLeft f)
+  -- "until no such pair is left"
+  pub noPair : NoPair (f .c) (pagesLeft f)
+  -- and any joins, one after another until no pair is left, end in the same pages
+  pub anyOrder : (ps : List Page) → Joins (f .c) (pagesInUse f) ps → NoPair (f .c) ps → Same ps (pagesLeft f)
+
+-- The charge file b, tidied at depth d, where that is not refused.
+pub record Tidied (d : ℕ) (b : List ℕ) : Type 0 where
+  pub joined : Joined (fileOf b)
+  -- "The pages are then numbered by their first entry": along the directory the numbers do not fall
+  pub numbered : (i j : ℕ) → i ≤ j → j < 2 ^ d → entryAt (tidyFile d (fileOf b)) i ≤ entryAt (tidyFile d (fileOf b)) j
+  -- what is written is accepted as a job by itself, and as a job is the tidied file
+  pub bytes : AreBytes (tidyBytes d b)
+  pub accepted : IsFile (tidyBytes d b) (tidyFile d (fileOf b))
+  pub most : length (tidyBytes d b) ≤ longest
+  -- "The file holds the same calls with the same charges", and no call twice
+  pub holds : (r : Rec) → Has r (contents (fileOf (tidyBytes d b))) ↔ Has r (contents (fileOf b))
+  pub once : NoneTwice (contents (fileOf (tidyBytes d b)))
+  -- tidied again it comes out as if it had not been tidied before: so at the same depth nothing changes
+  pub again : (room e : ℕ) → (tidyFault room e (tidyBytes d b) ≡ tidyFault room e b) × (tidyBytes e (tidyBytes d b) ≡ tidyBytes e b)
+  -- "A run that begins from a tidied file is explained by its log like any other"
+  pub explained
+      : (k post : List ℕ)
+      → AreBytes k
+      → Accepted k
+      → fileOf k ≡ fileOf (tidyBytes d b)
+      → Explained (jobOf k) (readResult (resultBytes k ++ post))
+
+-- WHAT TIDYING IS TO KEEP, for every charge file, given as its bytes, every depth and every buffer
+abbrev pub Tidies : Type 0
+Tidies = (room d : ℕ) (b : List ℕ) → AreBytes b → tidyFault room d b ≡ none → Tidied d b
