@@ -1,4 +1,5 @@
-// A job's header: its counts, its limits, and where each section begins. What the sections hold: sections.rt
+// A job's header: its counts, its limits, and where each section begins. What the sections hold: sections.rt. The header of a charge file: file.rt
+mod file;
 mod sections;
 
 ghost use mathlib.Core.Path.{_≡_};

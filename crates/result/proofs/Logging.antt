@@ -19,7 +19,7 @@ use Rattle.wire.specs.Over.{over}
 use Rattle.wire.specs.OverLaws.{length-over, over-none}
 use Rattle.result.specs.Marks.{markNumber, markOf, markPlace}
 use Rattle.result.specs.Lines.{line, seat, placed, linesIn, withLine, Logged, LogWritten}
-use Rattle.result.specs.Joined.{renewed}
+use Rattle.wire.specs.Joined.{renewed}
 use Rattle.result.specs.LineLaws.{lines-back, Small}
 use Rattle.result.specs.LogLaws.{log-none, log-same, log-more, from-small, seat-le, placed-length}
 

@@ -15,7 +15,7 @@ use Rattle.laws.specs.Codec.Sizes.{length-line}
 use Rattle.wire.specs.Over.{over}
 use Rattle.wire.specs.OverLaws.{length-over, over-none}
 use Rattle.wire.specs.Reads.{word-over-other}
-use Rattle.result.specs.Joined.{over-before}
+use Rattle.wire.specs.Joined.{over-before}
 use Rattle.result.specs.Lines.{line, seat, lineIn, linesIn, withLine}
 use Rattle.result.specs.LineLaws.{lines-count, lines-read}
 

@@ -5,21 +5,12 @@ use Prim.Native.Nat.{ℕ, suc, _+_, _*_, _^_, _≤_, _<_}
 use lib.ListN.{length, take, drop}
 use Rattle.spec.specs.Basics.{each}
 use Rattle.spec.specs.File.{File, pageAt, entryAt}
-use Rattle.spec.specs.Job.{Header, pageSize}
 use Rattle.spec.specs.Encode.{pageBytes}
 use Rattle.spec.specs.State.{State}
 use Rattle.spec.specs.Result.{toldOf, countUnder, Result, resultVersion, answerSize, answerBytes, answersOffset, fileOffset, offsetField, encodeResult}
 use Rattle.wire.specs.Over.{over}
 use Rattle.memory.specs.Memory.{entryIn, usedIn, partIn}
 use Rattle.result.specs.Lines.{Logged}
-
--- the header of a charge file: no operations and no turns
-abbrev pub fileHeader : ℕ → ℕ → ℕ → ℕ → Header
-fileHeader g c limit used = record { g = g; c = c; limit = limit; used = used; ops = 0; turns = 0 }
-
--- its length
-abbrev pub fileSize : ℕ → ℕ → ℕ → ℕ
-fileSize g c limit = 32 + 2 * 2 ^ g + pageSize c * limit
 
 -- The memory shows a file of depth g, capacity c and page count P: each entry, each page and the pages in use
 pub record FileShown (f : File) (g c P : ℕ) (w : List ℕ) : Type 0 where

@@ -16,7 +16,7 @@ use Rattle.laws.specs.Codec.Sizes.{length-result-header, length-answers, length
 use Rattle.wire.specs.Over.{over}
 use Rattle.wire.specs.OverLaws.{over-none, over-over}
 use Rattle.wire.specs.Parts.{length-part, over-part}
-use Rattle.result.specs.Joined.{over-before}
+use Rattle.wire.specs.Joined.{over-before}
 use Rattle.result.specs.Finish.{Heads, Ready, Finished}
 use Rattle.result.specs.Lines.{LogWritten}
 

@@ -4,7 +4,6 @@ pub mod Lines
 pub mod Finish
 -- laws
 pub mod Image
-pub mod Joined
 pub mod LogLaws
 pub mod LineLaws
 pub mod FileLaws

@@ -8,14 +8,15 @@ ghost use Prim.Native.Nat.{_+_, _*_, _^_, _≤_, _<_};
 ghost use lib.ListN.{length};
 ghost use Rattle.spec.specs.Bytes.{two, four};
 ghost use Rattle.spec.specs.File.{File};
-ghost use Rattle.spec.specs.Encode.{headerBytes, encodeFile};
+ghost use Rattle.spec.specs.Encode.{encodeFile};
 ghost use Rattle.spec.specs.Check.{workSize};
 ghost use Rattle.spec.specs.Result.{Result, resultOf, lineBytes, resultHeader};
 ghost use Rattle.spec.specs.State.{State};
 ghost use Rattle.wire.specs.Over.{over};
+ghost use Rattle.header.specs.File.{fileSize};
 ghost use Rattle.result.specs.Marks.{markNumber, begunNumber, withAnswer, withMark};
 ghost use Rattle.result.specs.Lines.{line, withLine, LogWritten};
-ghost use Rattle.result.specs.Finish.{Heads, fileHeader, fileSize, FileShown, Ready, Finished};
+ghost use Rattle.result.specs.Finish.{Heads, FileShown, Ready, Finished};
 
 // "Header, 24 bytes: version 1, .." The charge file behind it is a job, and has the job's version.
 const RESULT_VERSION: usize = 1;
@@ -121,79 +122,14 @@ fn write_log(work: &[u8], m: usize, result: &mut [u8], at: usize) -> usize
 
 // ---- header and charge file
 
-// Four numbers of 2 bytes.
-fn put_counts(result: &mut [u8], at: usize, a: usize, b: usize, c: usize, d: usize)
-    requires { ⌜ at + 8 ≤ length (now result) ⌝ }
-    ensures { λ _. ⌜ now (result .exit) ≡ over (now (result .entry)) at (two a ++ two b ++ two c ++ two d) ⌝ }
-{
-    wire::put_u16(result, at, a);
-    wire::put_u16(result, at + 2, b);
-    wire::put_u16(result, at + 4, c);
-    wire::put_u16(result, at + 6, d);
-}
-
-// Four numbers of 4 bytes.
-fn put_offsets(result: &mut [u8], at: usize, a: usize, b: usize, c: usize, d: usize)
-    requires { ⌜ (at + 16 ≤ length (now result)) × (a < 2 ^ 32) × (b < 2 ^ 32) × (c < 2 ^ 32) × (d < 2 ^ 32) ⌝ }
-    ensures { λ _. ⌜ now (result .exit) ≡ over (now (result .entry)) at (four a ++ four b ++ four c ++ four d) ⌝ }
-{
-    wire::put_u32(result, at, a as u32);
-    wire::put_u32(result, at + 4, b as u32);
-    wire::put_u32(result, at + 8, c as u32);
-    wire::put_u32(result, at + 12, d as u32);
-}
-
 // "Header, 24 bytes: version 1, m, log length L, operations begun but unfinished (2 bytes each); offsets of answers, log and charge file,
 // .., and the total (4 each)"
 fn write_header(result: &mut [u8], m: usize, lines: usize, under: usize, file: usize, total: usize)
     requires { ⌜ (24 ≤ length (now result)) × (m ≤ 256) × (file < 2 ^ 32) × (total < 2 ^ 32) ⌝ }
     ensures { λ _. ⌜ ((r : Result) → Heads r m lines under file total → now (result .exit) ≡ over (now (result .entry)) 0 (resultHeader r)) ⌝ }
 {
-    put_counts(result, 0, RESULT_VERSION, m, lines, under);
-    put_offsets(result, 8, ANSWERS, ANSWERS + 8 * m, file, total);
-}
-
-// the number of directory entries
-fn entries(depth: usize) -> usize
-    requires { ⌜ depth ≤ 8 ⌝ }
-    ensures { λ r. ⌜ (r ≡ 2 ^ depth) × (r ≤ 256) ⌝ }
-{
-    1 << depth
-}
-
-// the length of the charge file
-fn file_length(depth: usize, capacity: usize, pages: usize) -> usize
-    requires { ⌜ (depth ≤ 8) × (capacity ≤ 8) × (pages ≤ 256) ⌝ }
-    ensures { λ r. ⌜ (r ≡ fileSize depth capacity pages) × (r ≤ 17952) ⌝ }
-{
-    32 + 2 * entries(depth) + (4 + 8 * capacity) * pages
-}
-
-// "A charge file is a job with no operations and no turns": its header. Depth and capacity have a byte each.
-fn put_file_header(
-    result: &mut [u8],
-    at: usize,
-    depth: usize,
-    capacity: usize,
-    pages: usize,
-    used: usize,
-)
-    requires { ⌜ (at + 32 ≤ length (now result)) × (depth ≤ 8) × (capacity ≤ 8) × (pages ≤ 256) ⌝ }
-    ensures { λ _. ⌜ now (result .exit) ≡ over (now (result .entry)) at (headerBytes (fileHeader depth capacity pages used)) ⌝ }
-{
-    let table = 32 + 2 * entries(depth);
-    let end = file_length(depth, capacity, pages);
-    put_counts(
-        result,
-        at,
-        Header::VERSION,
-        depth + 256 * capacity,
-        pages,
-        used,
-    );
-    wire::clear(result, at + 8, 4);
-    put_offsets(result, at + 12, 32, table, end, end);
-    wire::put_u32(result, at + 28, end as u32);
+    wire::put_four_u16(result, 0, RESULT_VERSION, m, lines, under);
+    wire::put_four_u32(result, 8, ANSWERS, ANSWERS + 8 * m, file, total);
 }
 
 // The charge file that the working memory shows.
@@ -208,8 +144,8 @@ fn write_file(
     requires { ⌜ (workSize ≤ length (now work)) × (depth ≤ 8) × (capacity ≤ 8) × (pages ≤ 256) × (at + fileSize depth capacity pages ≤ length (now result)) ⌝ }
     ensures { λ _. ⌜ ((f : File) → FileShown f depth capacity pages (now (work .entry)) → now (result .exit) ≡ over (now (result .entry)) at (encodeFile f)) ⌝ }
 {
-    put_file_header(result, at, depth, capacity, pages, memory::used(work));
-    memory::save_file(work, entries(depth), capacity, pages, result, at + 32);
+    Header::put_file(result, at, depth, capacity, pages, memory::used(work));
+    memory::save_file(work, Header::entries_at(depth), capacity, pages, result, at + 32);
 }
 
 // The log, the header and, where no operation is begun but unfinished, the charge file; and the length of the result.
@@ -233,7 +169,7 @@ pub fn finish(
         write_header(result, m, lines, under, 0, end);
         return end;
     }
-    let total = end + file_length(depth, capacity, pages);
+    let total = end + Header::file_length(depth, capacity, pages);
     write_file(result, end, depth, capacity, pages, work);
     write_header(result, m, lines, under, end, total);
     total

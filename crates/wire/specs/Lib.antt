@@ -3,6 +3,7 @@ pub mod Over
 pub mod Wrote
 -- laws for callers' proofs
 pub mod OverLaws
+pub mod Joined
 pub mod Reads
 pub mod Parts
 pub mod WroteLaws

@@ -1,7 +1,8 @@
 // "Numbers are little-endian": numbers of 1, 2 and 4 bytes read from and written into a slice at any place, and runs of bytes.
 // What a writer leaves is said by one definition, `over`: the bytes at entry with some others from a place on.
 ghost use mathlib.Core.Path.{_≡_};
-ghost use Prim.Native.Nat.{_+_, _≤_, _<_};
+ghost use mathlib.Core.List.{_++_};
+ghost use Prim.Native.Nat.{_+_, _^_, _≤_, _<_};
 ghost use lib.ListN.{length, take, drop, replicate};
 ghost use Rattle.spec.specs.Bytes.{byte, word, long, two, four};
 ghost use Rattle.wire.specs.Over.{over};
@@ -47,6 +48,28 @@ pub fn put_u32(s: &mut [u8], at: usize, v: u32)
 {
     put_u16(s, at, (v % 65536) as usize);
     put_u16(s, at + 2, (v / 65536) as usize);
+}
+
+// Four numbers of 2 bytes.
+pub fn put_four_u16(s: &mut [u8], at: usize, a: usize, b: usize, c: usize, d: usize)
+    requires { ⌜ at + 8 ≤ length (now s) ⌝ }
+    ensures { λ _. ⌜ now (s .exit) ≡ over (now (s .entry)) at (two a ++ two b ++ two c ++ two d) ⌝ }
+{
+    put_u16(s, at, a);
+    put_u16(s, at + 2, b);
+    put_u16(s, at + 4, c);
+    put_u16(s, at + 6, d);
+}
+
+// Four numbers of 4 bytes.
+pub fn put_four_u32(s: &mut [u8], at: usize, a: usize, b: usize, c: usize, d: usize)
+    requires { ⌜ (at + 16 ≤ length (now s)) × (a < 2 ^ 32) × (b < 2 ^ 32) × (c < 2 ^ 32) × (d < 2 ^ 32) ⌝ }
+    ensures { λ _. ⌜ now (s .exit) ≡ over (now (s .entry)) at (four a ++ four b ++ four c ++ four d) ⌝ }
+{
+    put_u32(s, at, a as u32);
+    put_u32(s, at + 4, b as u32);
+    put_u32(s, at + 8, c as u32);
+    put_u32(s, at + 12, d as u32);
 }
 
 // n zeros

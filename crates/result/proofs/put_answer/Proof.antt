@@ -2,7 +2,7 @@ use mathlib.Core.Path.{refl}
 use Prim.Native.Nat.{_+_}
 use native.Mathlib.Omega.{arith}
 use Rattle.spec.specs.Bytes.{two, four}
-use Rattle.result.specs.Joined.{three}
+use Rattle.wire.specs.Joined.{three}
 use Rattle.result.proofs.put_answer.Statement.{statement}
 use Rattle.result.proofs.put_answer.Tie as tie
 

@@ -7,11 +7,11 @@ use Rattle.result.proofs.write_file.Tie as tie
 used-requires : tie.Need-used-requires
 used-requires c κs = omega arith
 
-put-file-header-requires : tie.Need-put-file-header-requires
-put-file-header-requires c κs = omega arith
+put-file-requires : tie.Need-put-file-requires
+put-file-requires c κs = omega arith
 
-entries-requires : tie.Need-entries-requires
-entries-requires c κs = omega arith
+entries-at-requires : tie.Need-entries-at-requires
+entries-at-requires c κs = omega arith
 
 add-save-file : tie.Need-add-save-file
 add-save-file c = omega arith
@@ -27,9 +27,9 @@ unfolding byte
 returns c = λ f h.
     let a = c .before .before .before .before .before .before .before .before .before .before .before .before .args in
     let u = c .before .before .before .before .before .before .before .before .used in
-    let n = c .before .before .before .before .entries in
+    let n = c .before .before .before .before .entries-at in
     file-pieces h (omega arith) (a .result .now) (a .at) (u .result) (n .result)
-    (c .before .before .before .before .before .before .before .put-file-header .ensures)
+    (c .before .before .before .before .before .before .before .put-file .ensures)
     (c .before .before .save-file .ensures)
     (u .ensures .0)
     (n .ensures .0)
@@ -41,8 +41,8 @@ write-file-spec =
     tie.close
     (tie.spec
     used-requires
-    put-file-header-requires
-    entries-requires
+    put-file-requires
+    entries-at-requires
     add-save-file
     save-file-requires
     same-length

@@ -3,17 +3,17 @@ use native.Mathlib.Omega.{arith}
 use Rattle.result.proofs.write_header.Statement.{statement}
 use Rattle.result.proofs.write_header.Tie as tie
 
-put-counts-requires : tie.Need-put-counts-requires
-put-counts-requires c κs = omega arith
+put-four-u16-requires : tie.Need-put-four-u16-requires
+put-four-u16-requires c κs = omega arith
 
-mul-put-offsets : tie.Need-mul-put-offsets
-mul-put-offsets c = omega arith
+mul-put-four-u32 : tie.Need-mul-put-four-u32
+mul-put-four-u32 c = omega arith
 
-add-put-offsets : tie.Need-add-put-offsets
-add-put-offsets c = omega arith
+add-put-four-u32 : tie.Need-add-put-four-u32
+add-put-four-u32 c = omega arith
 
-put-offsets-requires : tie.Need-put-offsets-requires
-put-offsets-requires c κs = omega arith
+put-four-u32-requires : tie.Need-put-four-u32-requires
+put-four-u32-requires c κs = omega arith
 
 same-length : tie.Need-same-length
 same-length c = omega arith
@@ -22,17 +22,17 @@ returns : tie.Need-returns
 returns c = λ r h.
     let a = c .before .before .before .before .before .before .before .before .before .args in
     result-header (a .result .now) r (a .m) (a .lines) (a .under) (a .file) (a .total)
-    (c .before .before .before .before .before .before .put-counts .ensures)
-    (c .before .before .put-offsets .ensures)
+    (c .before .before .before .before .before .before .put-four-u16 .ensures)
+    (c .before .before .put-four-u32 .ensures)
     h
 
 pub write-header-spec : {M : Type 1} → statement M
 write-header-spec =
     tie.close
     (tie.spec
-    put-counts-requires
-    mul-put-offsets
-    add-put-offsets
-    put-offsets-requires
+    put-four-u16-requires
+    mul-put-four-u32
+    add-put-four-u32
+    put-four-u32-requires
     same-length
     returns)

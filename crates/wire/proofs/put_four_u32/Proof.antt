@@ -2,9 +2,9 @@ use mathlib.Core.Path.{refl}
 use Prim.Native.Nat.{_+_}
 use native.Mathlib.Omega.{arith}
 use Rattle.spec.specs.Bytes.{two, four}
-use Rattle.result.specs.Joined.{four as joined}
-use Rattle.result.proofs.put_offsets.Statement.{statement}
-use Rattle.result.proofs.put_offsets.Tie as tie
+use Rattle.wire.specs.Joined.{four as joined}
+use Rattle.wire.proofs.put_four_u32.Statement.{statement}
+use Rattle.wire.proofs.put_four_u32.Tie as tie
 
 cast-put-u32 : tie.Need-cast-put-u32
 cast-put-u32 c = omega arith
@@ -46,7 +46,7 @@ returns : tie.Need-returns
 unfolding four two
 returns c =
     let a = c .before .before .before .before .before .before .before .before .before .before .before .before .before .before .before .before .before .args in
-    joined (a .result .now) (four (a .a)) (four (a .b)) (four (a .c)) (a .at) (a .at + 4) (a .at + 8) (four (a .d)) (a .at + 12)
+    joined (a .s .now) (four (a .a)) (four (a .b)) (four (a .c)) (a .at) (a .at + 4) (a .at + 8) (four (a .d)) (a .at + 12)
     (c .before .before .before .before .before .before .before .before .before .before .before .before .before .before .put-u32 .ensures)
     (c .before .before .before .before .before .before .before .before .before .before .put-u322 .ensures)
     (c .before .before .before .before .before .before .put-u323 .ensures)
@@ -55,8 +55,8 @@ returns c =
     (omega arith)
     (omega arith)
 
-pub put-offsets-spec : {M : Type 1} → statement M
-put-offsets-spec =
+pub put-four-u32-spec : {M : Type 1} → statement M
+put-four-u32-spec =
     tie.close
     (tie.spec
     cast-put-u32

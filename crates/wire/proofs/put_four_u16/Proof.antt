@@ -2,9 +2,9 @@ use mathlib.Core.Path.{refl}
 use Prim.Native.Nat.{_+_}
 use native.Mathlib.Omega.{arith}
 use Rattle.spec.specs.Bytes.{two}
-use Rattle.result.specs.Joined.{four}
-use Rattle.result.proofs.put_counts.Statement.{statement}
-use Rattle.result.proofs.put_counts.Tie as tie
+use Rattle.wire.specs.Joined.{four}
+use Rattle.wire.proofs.put_four_u16.Statement.{statement}
+use Rattle.wire.proofs.put_four_u16.Tie as tie
 
 put-u16-requires : tie.Need-put-u16-requires
 put-u16-requires c κs = omega arith
@@ -34,7 +34,7 @@ returns : tie.Need-returns
 unfolding two
 returns c =
     let a = c .before .before .before .before .before .before .before .before .before .before .before .before .before .before .before .before .before .args in
-    four (a .result .now) (two (a .a)) (two (a .b)) (two (a .c)) (a .at) (a .at + 2) (a .at + 4) (two (a .d)) (a .at + 6)
+    four (a .s .now) (two (a .a)) (two (a .b)) (two (a .c)) (a .at) (a .at + 2) (a .at + 4) (two (a .d)) (a .at + 6)
     (c .before .before .before .before .before .before .before .before .before .before .before .before .before .before .put-u16 .ensures)
     (c .before .before .before .before .before .before .before .before .before .before .put-u162 .ensures)
     (c .before .before .before .before .before .before .put-u163 .ensures)
@@ -43,8 +43,8 @@ returns c =
     (omega arith)
     (omega arith)
 
-pub put-counts-spec : {M : Type 1} → statement M
-put-counts-spec =
+pub put-four-u16-spec : {M : Type 1} → statement M
+put-four-u16-spec =
     tie.close
     (tie.spec
     put-u16-requires

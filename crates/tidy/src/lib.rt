@@ -1,0 +1,2 @@
+// Tidying between runs.
+mod left;
