@@ -22,7 +22,7 @@ use Rattle.laws.specs.Tidy.Twins.{Twins, joined-depth, joined-pattern, j
 use Rattle.laws.specs.Tidy.Left.{leb-yes, is-pair, Left, own, pair, apart, entry-of, pages-left}
 
 -- two halves that came to one page each
-twins
+pub twins
     : {l p : ℕ} {xs ys : List Page}
     → l < 32
     → Tiles (suc l) (2 * p) xs
