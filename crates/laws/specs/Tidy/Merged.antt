@@ -12,11 +12,11 @@ use Rattle.spec.specs.declared.Rec.{Rec}
 use Rattle.spec.specs.Basics.{Each}
 use Rattle.spec.specs.File.{findIn, putIn}
 use Rattle.spec.specs.PlainList.{NoneTwice, more}
-use Rattle.spec.specs.Proper.{CallsRise}
+use Rattle.spec.specs.Proper.{CallsRise, flat}
 use Rattle.spec.specs.Tidy.{merged}
 use Rattle.laws.specs.Tools.{first, rest}
 use Rattle.laws.specs.Turns.Records.{find-nil, find-hit, find-miss, none-head, none-tail}
-use Rattle.laws.specs.Turns.CallsRise.{put-other, put-own, put-length, put-each, put-rise}
+use Rattle.laws.specs.Turns.CallsRise.{rise-once, rise-same, put-other, put-own, put-length, put-each, put-rise}
 
 pub merged-length : (xs ys : List Rec) → length (merged xs ys) ≡ length xs + length ys
 unfolding merged
@@ -71,3 +71,25 @@ pub merged-append : (xs ys zs : List Rec) → merged xs (ys ++ zs) ≡ merged (m
 unfolding merged
 merged-append xs [] zs = refl
 merged-append xs (a ∷ ys) zs = merged-append (putIn xs a) ys zs
+
+-- records put in order first: the same is found among them, and the same list comes of putting them in
+pub sorted-find : (ys : List Rec) (k : ℕ) → NoneTwice ys → findIn (merged [] ys) k ≡ findIn ys k
+sorted-find ys k t = merged-right [] ys k t (find-nil k)
+
+pub sorted-rise : (ys : List Rec) → NoneTwice ys → CallsRise (merged [] ys)
+sorted-rise ys t = merged-rise [] ys flat t (λ k. inl (find-nil k))
+
+pub sorted-apart : (xs ys : List Rec) → NoneTwice ys → Apart xs (merged [] ys) → Apart xs ys
+sorted-apart xs ys t d k = ⊎-elim inl (λ q. inr (sym (sorted-find ys k t) ∙ q)) (d k)
+
+pub sorted-same : (ys : List Rec) → CallsRise ys → merged [] ys ≡ ys
+sorted-same ys h = let t = rise-once ys h in rise-same (merged [] ys) ys (sorted-rise ys t) h (λ k. sorted-find ys k t)
+
+pub merged-sorted : (xs ys : List Rec) → CallsRise xs → NoneTwice ys → Apart xs (merged [] ys) → merged xs (merged [] ys) ≡ merged xs ys
+merged-sorted xs ys h t d =
+    let t' = rise-once (merged [] ys) (sorted-rise ys t) in
+    let d' = sorted-apart xs ys t d in
+    rise-same (merged xs (merged [] ys)) (merged xs ys) (merged-rise xs (merged [] ys) h t' d) (merged-rise xs ys h t d')
+    (λ k.
+    ⊎-elim (λ q. merged-right xs (merged [] ys) k t' q ∙ sorted-find ys k t ∙ sym (merged-right xs ys k t q))
+    (λ q. merged-left xs (merged [] ys) k q ∙ sym (merged-left xs ys k (sym (sorted-find ys k t) ∙ q))) (d k))

@@ -87,7 +87,7 @@ module _ (l p : ℕ) (a b : Page) (t : Twins l p a b) where
     joined-homed =
         merged-each (a .records) (b .records) (each-imp (λ r i. a-joined (r .call) i) homed-a) (each-imp (λ r i. b-joined (r .call) i) homed-b)
 
-    apart : Apart (a .records) (b .records)
+    pub apart : Apart (a .records) (b .records)
     apart k =
         by-cases (ℕ-discrete (index (suc l) k) (2 * p)) (λ e. inr (not-held b k homed-b (λ j. let y = in-b k j in omega arith)))
         (λ e. inl (not-held a k homed-a (λ j. e (in-a k j))))
