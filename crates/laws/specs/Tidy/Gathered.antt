@@ -1,13 +1,13 @@
 -- The records of a page left, gathered along the directory: those of the file's pages under its pattern, by their first entries, put in order.
-use Prim.Native.Nat.{ℕ, zero, suc, _+_, _-_, _*_, _^_, _<_, _≤_}
+use Prim.Native.Nat.{ℕ, zero, suc, _+_, _-_, _*_, _/_, _^_, _<_, _≤_}
 use mathlib.Core.Path.{_≡_, refl, sym, ap, _∙_}
 use mathlib.Core.Logic.{inl, inr, ⊎-elim}
-use mathlib.Core.List.{List, [], _∷_, _++_, append-assoc}
+use mathlib.Core.List.{List, [], _∷_, _++_, append-assoc, append-nil}
 use mathlib.Core.Option.{none}
 use native.Mathlib.Omega.{arith}
 use native.Mathlib.Nat.{pow-suc, mul-le-mul-right}
 use lib.ListN.{length, getD, length-append}
-use lib.Pow.{pow-pos, pow-add, shl-lt, shl-shr}
+use lib.Pow.{pow-pos, pow-add, high}
 use borrow.Author.Tests.{ltb-true, lt-ltb, le-ltb, eq-eqb}
 use Rattle.spec.specs.declared.Rec.{Rec}
 use Rattle.spec.specs.Basics.{Each, end, next}
@@ -21,7 +21,7 @@ use Rattle.laws.specs.Turns.Records.{join-twice}
 use Rattle.laws.specs.Turns.CallsRise.{rise-once}
 use Rattle.laws.specs.Tidy.Merged.{Apart, merged-length, merged-append, sorted-find, sorted-same, merged-sorted}
 use Rattle.laws.specs.Tidy.Tiles.{tiles-some, tiles-one}
-use Rattle.laws.specs.Tidy.Twins.{apart as twins-apart}
+use Rattle.laws.specs.Tidy.Twins.{Twins, apart as twins-apart}
 use Rattle.laws.specs.Tidy.Left.{is-pair, Left, own, pair, apart, pages-left}
 use Rattle.laws.specs.Tidy.Kept.{twins, left-tiles, left-each, Right, page-right, joined-right, left-right}
 use Rattle.laws.specs.Tidy.Entries.{pageOn, firstEntry, recordsFrom, gathered}
@@ -65,15 +65,23 @@ page-range g c q h =
     let w : firstEntry g q + 2 ^ (g - q .depth) ≤ 2 ^ (q .depth + (g - q .depth)) = omega (arith, s, t) in
     rw z at w
 
--- and the first of them names it
-pub own-entry : (f : File) → FileOk f → (x : ℕ) → PageNo f x → pageOn f (firstEntry (f .g) (pageAt f x)) ≡ pageAt f x
-unfolding pageOn firstEntry begins
-own-entry f ok x n =
+-- and they all name it
+pub range-entry
+    : (f : File) → FileOk f → (x j : ℕ) → PageNo f x → firstEntry (f .g) (pageAt f x) ≤ j → j < firstEntry (f .g) (pageAt f x) + 2 ^ (f .g - pageAt f x .depth) → entryAt f j ≡ x
+unfolding firstEntry begins
+range-entry f ok x j n a b =
     let q = pageAt f x in
     let d = f .g - q .depth in
-    let z : q .depth + d ≡ f .g = omega (arith, ok .pages x n .deep) in
-    let l : q .pattern * 2 ^ d < 2 ^ f .g = rw z at (shl-lt (q .depth) d (ok .pages x n .small)) in
-    ap (pageAt f) (ok .owner (q .pattern * 2 ^ d) x l n (eq-eqb _ _ (shl-shr (q .pattern) d)))
+    let r = page-range (f .g) (f .c) q (ok .pages x n) in
+    let z : q .pattern * 2 ^ d + (j - q .pattern * 2 ^ d) ≡ j = omega arith in
+    let e : j / 2 ^ d ≡ q .pattern = rw z at (high (q .pattern) d {lo = j - q .pattern * 2 ^ d} (omega arith)) in
+    ok .owner j x (omega arith) n (eq-eqb _ _ e)
+
+pub own-entry : (f : File) → FileOk f → (x : ℕ) → PageNo f x → pageOn f (firstEntry (f .g) (pageAt f x)) ≡ pageAt f x
+unfolding pageOn
+own-entry f ok x n =
+    let pos = pow-pos (f .g - pageAt f x .depth) in
+    ap (pageAt f) (range-entry f ok x _ n (omega arith) (omega arith))
 
 pub left-deep : (f : File) → FileOk f → {l p : ℕ} {ps : List Page} → Left f l p ps → l ≤ f .g
 left-deep f ok (own {x = x} n d e) = omega (arith, ok .pages x n .deep)
@@ -89,6 +97,16 @@ raw (apart h s t e) = raw s ++ raw t
 -- a pattern's entries are those of its two halves
 half-ends : (p n : ℕ) → (p * (n * 2) ≡ 2 * p * n) × ((p + 1) * (n * 2) ≡ (2 * p + 1 + 1) * n)
 half-ends p n = (omega arith, omega arith)
+
+-- a page left, its first entry, and the entry behind its last
+abbrev leftPage : File → ℕ → Page
+leftPage f m = getD (pagesLeft f) m zeroPage
+
+abbrev leftFrom : File → ℕ → ℕ
+leftFrom f m = firstEntry (f .g) (leftPage f m)
+
+abbrev leftTo : File → ℕ → ℕ
+leftTo f m = leftFrom f m + 2 ^ (f .g - leftPage f m .depth)
 
 module _ (f : File) (ok : FileOk f) where
   abbrev g : ℕ
@@ -125,3 +143,83 @@ module _ (f : File) (ok : FileOk f) where
   walked {l} {p} (own {x = x} n d e) = walked-own x l p n d e
   walked {l} {p} (pair h s t e) = walked-halves l p (raw s) (raw t) (left-deep f ok s) (walked s) (walked t)
   walked {l} {p} (apart h s t e) = walked-halves l p (raw s) (raw t) (left-deep f ok s) (walked s) (walked t)
+
+  -- ---- what they come to, under a pattern that came to one page
+
+  rights : {l p : ℕ} {ps : List Page} → Left f l p ps → Each (Right f) ps
+  rights s = left-each (Right f) (page-right f ok) (joined-right f) s
+
+  -- no call is twice among the records, and put in order they are the page's
+  abbrev Gives : List Rec → Page → Type 0
+  Gives rs q = NoneTwice rs × (merged [] rs ≡ q .records)
+
+  -- so the same is found in both
+  gives-find : (rs : List Rec) (q : Page) → Gives rs q → (k : ℕ) → findIn rs k ≡ findIn (q .records) k
+  gives-find rs q (t, e) k = sym (sorted-find rs k t) ∙ ap (λ l. findIn l k) e
+
+  gives-own : (x : ℕ) → PageNo f x → Gives (pageAt f x .records) (pageAt f x)
+  gives-own x n = let h = ok .pages x n .callsRise in (rise-once _ h, sorted-same _ h)
+
+  gives-pair
+      : (l p : ℕ) (a b : Page) (xs ys : List Rec)
+      → Twins l p a b
+      → Right f a
+      → Right f b
+      → Gives xs a
+      → Gives ys b
+      → Gives (xs ++ ys) (joinPages a b)
+  unfolding joinPages
+  gives-pair l p a b xs ys w x y u v =
+      let d : Apart (a .records) (b .records) = twins-apart l p a b w (x .ok .homed) (y .ok .homed) in
+      let d' : Apart (a .records) (merged [] ys) = rw (v .1) d in
+      (join-twice xs ys (u .0) (v .0) (λ k. ⊎-elim (λ q. inl (gives-find xs a u k ∙ q)) (λ q. inr (gives-find ys b v k ∙ q)) (d k)),
+      merged-append [] xs ys
+      ∙ ap (λ rs. merged rs ys) (u .1)
+      ∙ sym (merged-sorted (a .records) ys (x .ok .callsRise) (v .0) d')
+      ∙ ap (merged (a .records)) (v .1))
+
+  gives : {l p : ℕ} {ps : List Page} (s : Left f l p ps) → length ps ≡ 1 → Gives (raw s) (getD ps 0 zeroPage)
+  unfolding raw
+  gives (own {x = x} n d e) o = gives-own x n
+  gives {l} {p} (pair {xs = xs} {ys = ys} h s t e) o =
+      let i = is-pair (f .c) xs ys e in
+      gives-pair l p _ _ (raw s) (raw t) (twins h (left-tiles s) (left-tiles t) (i .one-left) (i .one-right))
+      (each-at xs 0 zeroPage (omega (arith, i .one-left)) (rights s))
+      (each-at ys 0 zeroPage (omega (arith, i .one-right)) (rights t))
+      (gives s (i .one-left))
+      (gives t (i .one-right))
+  gives (apart {xs = xs} {ys = ys} h s t e) o =
+      let a = tiles-some (left-tiles s) in
+      let b = tiles-some (left-tiles t) in
+      absurd (omega (arith, o, length-append xs ys))
+
+  -- each page left came about so, by itself
+  renamed : {l p l' p' : ℕ} {ps : List Page} → l' ≡ l → p' ≡ p → Left f l p ps → Left f l' p' ps
+  renamed d e s = rw (d, e) s
+
+  by-itself : {l p : ℕ} {ps : List Page} → Left f l p ps → Each (λ q. Left f (q .depth) (q .pattern) (q ∷ [])) ps
+  by-itself (own {x = x} n d e) = next (renamed d e (own n d e)) end
+  by-itself (pair h s t e) =
+      let w = tiles-one (left-tiles (pair h s t e)) refl in
+      next (renamed (w .0) (w .1) (pair h s t e)) end
+  by-itself (apart {xs = xs} {ys = ys} h s t e) = each-append xs ys (by-itself s) (by-itself t)
+
+  sole-records : (q : Page) → Left f (q .depth) (q .pattern) (q ∷ []) → merged [] (gathered f (firstEntry g q) (firstEntry g q + 2 ^ (g - q .depth))) ≡ q .records
+  unfolding firstEntry
+  sole-records q s =
+      let at = q .pattern * 2 ^ (g - q .depth) in
+      let to = at + 2 ^ (g - q .depth) in
+      let e : (q .pattern + 1) * 2 ^ (g - q .depth) ≡ q .pattern * 2 ^ (g - q .depth) + 2 ^ (g - q .depth) = omega arith in
+      let w : gathered f at to ≡ raw s = walked s to (omega arith) ∙ ap (λ rs. raw s ++ rs) (gathered-end f _ to (omega arith)) ∙ append-nil (raw s) in
+      ap (merged []) w ∙ gives s refl .1
+
+  -- THE RECORDS OF A PAGE LEFT
+  pub left-gathered : (m : ℕ) → m < length (pagesLeft f) → merged [] (gathered f (leftFrom f m) (leftTo f m)) ≡ leftPage f m .records
+  left-gathered m l = sole-records _ (each-at (pagesLeft f) m zeroPage l (by-itself (pages-left f ok)))
+
+  pub left-gathered-length : (m : ℕ) → m < length (pagesLeft f) → length (gathered f (leftFrom f m) (leftTo f m)) ≡ length (leftPage f m .records)
+  left-gathered-length m l = omega (arith, merged-length [] (gathered f (leftFrom f m) (leftTo f m)), ap length (left-gathered m l))
+
+  -- all of its entries are in the directory
+  pub left-range : (m : ℕ) → m < length (pagesLeft f) → leftTo f m ≤ 2 ^ g
+  left-range m l = page-range g (f .c) (leftPage f m) (each-at (pagesLeft f) m zeroPage l (left-right f ok) .ok)
