@@ -1,11 +1,12 @@
 -- The records of a page left, gathered along the directory: those of the file's pages under its pattern, by their first entries, put in order.
 use Prim.Native.Nat.{ℕ, zero, suc, _+_, _-_, _*_, _/_, _^_, _<_, _≤_}
 use mathlib.Core.Path.{_≡_, refl, sym, ap, _∙_}
-use mathlib.Core.Logic.{inl, inr, ⊎-elim}
+use mathlib.Core.Logic.{inl, inr, ⊎-elim, by-cases}
 use mathlib.Core.List.{List, [], _∷_, _++_, append-assoc, append-nil}
 use mathlib.Core.Option.{none}
 use native.Mathlib.Omega.{arith}
 use native.Mathlib.Nat.{pow-suc, mul-le-mul-right}
+use native.Mathlib.Decide.{decLt}
 use lib.ListN.{length, getD, length-append}
 use lib.Pow.{pow-pos, pow-add, high}
 use borrow.Author.Tests.{ltb-true, lt-ltb, le-ltb, eq-eqb}
@@ -77,11 +78,13 @@ range-entry f ok x j n a b =
     let e : j / 2 ^ d ≡ q .pattern = rw z at (high (q .pattern) d {lo = j - q .pattern * 2 ^ d} (omega arith)) in
     ok .owner j x (omega arith) n (eq-eqb _ _ e)
 
-pub own-entry : (f : File) → FileOk f → (x : ℕ) → PageNo f x → pageOn f (firstEntry (f .g) (pageAt f x)) ≡ pageAt f x
+pub range-page
+    : (f : File) → FileOk f → (x j : ℕ) → PageNo f x → firstEntry (f .g) (pageAt f x) ≤ j → j < firstEntry (f .g) (pageAt f x) + 2 ^ (f .g - pageAt f x .depth) → pageOn f j ≡ pageAt f x
 unfolding pageOn
-own-entry f ok x n =
-    let pos = pow-pos (f .g - pageAt f x .depth) in
-    ap (pageAt f) (range-entry f ok x _ n (omega arith) (omega arith))
+range-page f ok x j n a b = ap (pageAt f) (range-entry f ok x j n a b)
+
+pub own-page : (f : File) → FileOk f → (x : ℕ) → PageNo f x → pageOn f (firstEntry (f .g) (pageAt f x)) ≡ pageAt f x
+own-page f ok x n = let pos = pow-pos (f .g - pageAt f x .depth) in range-page f ok x _ n (omega arith) (omega arith)
 
 pub left-deep : (f : File) → FileOk f → {l p : ℕ} {ps : List Page} → Left f l p ps → l ≤ f .g
 left-deep f ok (own {x = x} n d e) = omega (arith, ok .pages x n .deep)
@@ -120,7 +123,7 @@ module _ (f : File) (ok : FileOk f) where
   unfolding firstEntry
   walked-own x l p n d i e h =
       let at : p * 2 ^ (g - l) ≡ firstEntry g (pageAt f x) = rw (d, i) in
-      let w : pageOn f (p * 2 ^ (g - l)) ≡ pageAt f x = ap (pageOn f) at ∙ own-entry f ok x n in
+      let w : pageOn f (p * 2 ^ (g - l)) ≡ pageAt f x = ap (pageOn f) at ∙ own-page f ok x n in
       let pos = pow-pos (g - l) in
       let z : p * 2 ^ (g - l) + 2 ^ (g - l) ≡ (p + 1) * 2 ^ (g - l) = omega arith in
       rw (w, d, z) at (gathered-step f (p * 2 ^ (g - l)) e (omega arith))
@@ -171,12 +174,13 @@ module _ (f : File) (ok : FileOk f) where
   unfolding joinPages
   gives-pair l p a b xs ys w x y u v =
       let d : Apart (a .records) (b .records) = twins-apart l p a b w (x .ok .homed) (y .ok .homed) in
-      let d' : Apart (a .records) (merged [] ys) = rw (v .1) d in
-      (join-twice xs ys (u .0) (v .0) (λ k. ⊎-elim (λ q. inl (gives-find xs a u k ∙ q)) (λ q. inr (gives-find ys b v k ∙ q)) (d k)),
-      merged-append [] xs ys
-      ∙ ap (λ rs. merged rs ys) (u .1)
-      ∙ sym (merged-sorted (a .records) ys (x .ok .callsRise) (v .0) d')
-      ∙ ap (merged (a .records)) (v .1))
+      let d' : Apart (a .records) (merged [] ys) = rw (v .1) d in (
+        join-twice xs ys (u .0) (v .0) (λ k. ⊎-elim (λ q. inl (gives-find xs a u k ∙ q)) (λ q. inr (gives-find ys b v k ∙ q)) (d k)),
+        merged-append [] xs ys
+            ∙ ap (λ rs. merged rs ys) (u .1)
+            ∙ sym (merged-sorted (a .records) ys (x .ok .callsRise) (v .0) d')
+            ∙ ap (merged (a .records)) (v .1),
+      )
 
   gives : {l p : ℕ} {ps : List Page} (s : Left f l p ps) → length ps ≡ 1 → Gives (raw s) (getD ps 0 zeroPage)
   unfolding raw
@@ -223,3 +227,47 @@ module _ (f : File) (ok : FileOk f) where
   -- all of its entries are in the directory
   pub left-range : (m : ℕ) → m < length (pagesLeft f) → leftTo f m ≤ 2 ^ g
   left-range m l = page-range g (f .c) (leftPage f m) (each-at (pagesLeft f) m zeroPage l (left-right f ok) .ok)
+
+  -- a page in use whose first entry is under a pattern has all its entries there
+  abbrev Ends : ℕ → ℕ → Type 0
+  Ends l p = (x : ℕ) → PageNo f x → p * 2 ^ (g - l) ≤ firstEntry g (pageAt f x) → firstEntry g (pageAt f x) < (p + 1) * 2 ^ (g - l) → firstEntry g (pageAt f x) + 2 ^ (g - pageAt f x .depth) ≤ (p + 1) * 2 ^ (g - l)
+
+  ends-own : (y l p : ℕ) → PageNo f y → pageAt f y .depth ≡ l → pageAt f y .pattern ≡ p → Ends l p
+  unfolding firstEntry
+  ends-own y l p n d i x m a b =
+      let at : p * 2 ^ (g - l) ≡ firstEntry g (pageAt f y) = rw (d, i) in
+      let to : (p + 1) * 2 ^ (g - l) ≡ p * 2 ^ (g - l) + 2 ^ (g - l) = omega arith in
+      let u : firstEntry g (pageAt f y) ≤ firstEntry g (pageAt f x) = rw (← at) a in
+      let v : firstEntry g (pageAt f x) < firstEntry g (pageAt f y) + 2 ^ (g - pageAt f y .depth) = rw (← at, d) (omega arith) in
+      let w : pageAt f x ≡ pageAt f y = sym (own-page f ok x m) ∙ range-page f ok y (firstEntry g (pageAt f x)) n u v in
+      rw w (rw (← at, d) (omega arith))
+
+  ends-halves : (l p : ℕ) → l < g → Ends (suc l) (2 * p) → Ends (suc l) (2 * p + 1) → Ends l p
+  ends-halves l p h s t x n a b =
+      let z : g - l ≡ suc (g - suc l) = omega arith in
+      let w : 2 ^ (g - l) ≡ 2 ^ (g - suc l) * 2 = ap (λ n. 2 ^ n) z ∙ pow-suc 2 (g - suc l) in
+      let (from, to) = half-ends p (2 ^ (g - suc l)) in
+      let a' : 2 * p * 2 ^ (g - suc l) ≤ firstEntry g (pageAt f x) = rw (w, from) at a in
+      let b' : firstEntry g (pageAt f x) < (2 * p + 1 + 1) * 2 ^ (g - suc l) = rw (w, to) at b in
+      rw (w, to)
+      (by-cases (decLt (firstEntry g (pageAt f x)) ((2 * p + 1) * 2 ^ (g - suc l)))
+      (λ i. let r = s x n a' i in omega arith)
+      (λ i. t x n (omega arith) b'))
+
+  ends : {l p : ℕ} {ps : List Page} → Left f l p ps → Ends l p
+  ends {l} {p} (own {x = y} n d e) = ends-own y l p n d e
+  ends {l} {p} (pair h s t e) = ends-halves l p (left-deep f ok s) (ends s) (ends t)
+  ends {l} {p} (apart h s t e) = ends-halves l p (left-deep f ok s) (ends s) (ends t)
+
+  pub left-step
+      : (m x : ℕ)
+      → m < length (pagesLeft f)
+      → PageNo f x
+      → leftFrom f m ≤ firstEntry g (pageAt f x)
+      → firstEntry g (pageAt f x) < leftTo f m
+      → firstEntry g (pageAt f x) + 2 ^ (g - pageAt f x .depth) ≤ leftTo f m
+  unfolding firstEntry
+  left-step m x l n a b =
+      let q = leftPage f m in
+      let e : (q .pattern + 1) * 2 ^ (g - q .depth) ≡ q .pattern * 2 ^ (g - q .depth) + 2 ^ (g - q .depth) = omega arith in
+      rw (← e) (ends (each-at (pagesLeft f) m zeroPage l (by-itself (pages-left f ok))) x n a (rw e b))
