@@ -3,13 +3,12 @@ use Prim.Native.Nat.{ℕ, zero, suc, _+_, _-_, _*_, _/_, _^_, _<_, _≤_}
 use mathlib.Core.Path.{_≡_, refl, sym, ap, _∙_}
 use mathlib.Core.Logic.{inl, inr, ⊎-elim, by-cases}
 use mathlib.Core.List.{List, [], _∷_, _++_, append-assoc, append-nil}
-use mathlib.Core.Option.{none}
 use native.Mathlib.Omega.{arith}
-use native.Mathlib.Nat.{pow-suc, mul-le-mul-right}
+use native.Mathlib.Nat.{mul-le-mul-right}
 use native.Mathlib.Decide.{decLt}
 use lib.ListN.{length, getD, length-append}
 use lib.Pow.{pow-pos, pow-add, high}
-use borrow.Author.Tests.{ltb-true, lt-ltb, le-ltb, eq-eqb}
+use borrow.Author.Tests.{lt-ltb, le-ltb, eq-eqb}
 use Rattle.spec.specs.declared.Rec.{Rec}
 use Rattle.spec.specs.Basics.{Each, end, next}
 use Rattle.spec.specs.Key.{begins}
@@ -17,7 +16,7 @@ use Rattle.spec.specs.File.{Page, File, zeroPage, pageAt, entryAt, findIn}
 use Rattle.spec.specs.PlainList.{NoneTwice}
 use Rattle.spec.specs.Proper.{PageNo, PageOk, FileOk}
 use Rattle.spec.specs.Tidy.{merged, joinPages, pagesLeft}
-use Rattle.laws.specs.Tools.{if-true, if-false, if-both, first, each-append, each-at}
+use Rattle.laws.specs.Tools.{if-true, if-false, if-both, each-append, each-at}
 use Rattle.laws.specs.Turns.Records.{join-twice}
 use Rattle.laws.specs.Turns.CallsRise.{rise-once}
 use Rattle.laws.specs.Tidy.Merged.{Apart, merged-length, merged-append, sorted-find, sorted-same, merged-sorted}
@@ -26,6 +25,7 @@ use Rattle.laws.specs.Tidy.Twins.{Twins, apart as twins-apart}
 use Rattle.laws.specs.Tidy.Left.{is-pair, Left, own, pair, apart, pages-left}
 use Rattle.laws.specs.Tidy.Kept.{twins, left-tiles, left-each, Right, page-right, joined-right, left-right}
 use Rattle.laws.specs.Tidy.Entries.{pageOn, firstEntry, recordsFrom, gathered}
+use Rattle.laws.specs.Tidy.Starts.{twice}
 
 -- ---- the steps of the walk
 
@@ -66,9 +66,15 @@ page-range g c q h =
     let w : firstEntry g q + 2 ^ (g - q .depth) ≤ 2 ^ (q .depth + (g - q .depth)) = omega (arith, s, t) in
     rw z at w
 
--- and they all name it
-pub range-entry
-    : (f : File) → FileOk f → (x j : ℕ) → PageNo f x → firstEntry (f .g) (pageAt f x) ≤ j → j < firstEntry (f .g) (pageAt f x) + 2 ^ (f .g - pageAt f x .depth) → entryAt f j ≡ x
+-- a page of the file, by its number: its first entry, and the entry behind its last
+abbrev pub entryFrom : File → ℕ → ℕ
+entryFrom f x = firstEntry (f .g) (pageAt f x)
+
+abbrev pub entryTo : File → ℕ → ℕ
+entryTo f x = entryFrom f x + 2 ^ (f .g - pageAt f x .depth)
+
+-- a page's entries all name it
+pub range-entry : (f : File) → FileOk f → (x j : ℕ) → PageNo f x → entryFrom f x ≤ j → j < entryTo f x → entryAt f j ≡ x
 unfolding firstEntry begins
 range-entry f ok x j n a b =
     let q = pageAt f x in
@@ -78,14 +84,14 @@ range-entry f ok x j n a b =
     let e : j / 2 ^ d ≡ q .pattern = rw z at (high (q .pattern) d {lo = j - q .pattern * 2 ^ d} (omega arith)) in
     ok .owner j x (omega arith) n (eq-eqb _ _ e)
 
-pub range-page
-    : (f : File) → FileOk f → (x j : ℕ) → PageNo f x → firstEntry (f .g) (pageAt f x) ≤ j → j < firstEntry (f .g) (pageAt f x) + 2 ^ (f .g - pageAt f x .depth) → pageOn f j ≡ pageAt f x
+pub range-page : (f : File) → FileOk f → (x j : ℕ) → PageNo f x → entryFrom f x ≤ j → j < entryTo f x → pageOn f j ≡ pageAt f x
 unfolding pageOn
 range-page f ok x j n a b = ap (pageAt f) (range-entry f ok x j n a b)
 
-pub own-page : (f : File) → FileOk f → (x : ℕ) → PageNo f x → pageOn f (firstEntry (f .g) (pageAt f x)) ≡ pageAt f x
+pub own-page : (f : File) → FileOk f → (x : ℕ) → PageNo f x → pageOn f (entryFrom f x) ≡ pageAt f x
 own-page f ok x n = let pos = pow-pos (f .g - pageAt f x .depth) in range-page f ok x _ n (omega arith) (omega arith)
 
+-- a pattern that the pages left came about under has no more bits than the directory's entries
 pub left-deep : (f : File) → FileOk f → {l p : ℕ} {ps : List Page} → Left f l p ps → l ≤ f .g
 left-deep f ok (own {x = x} n d e) = omega (arith, ok .pages x n .deep)
 left-deep f ok (pair h s t e) = let a = left-deep f ok s in omega arith
@@ -97,24 +103,28 @@ raw {f} (own {x = x} n d e) = pageAt f x .records
 raw (pair h s t e) = raw s ++ raw t
 raw (apart h s t e) = raw s ++ raw t
 
--- a pattern's entries are those of its two halves
+-- where a pattern's entries end, and where they begin and end in those of its halves
+past : (p n : ℕ) → (p + 1) * n ≡ p * n + n
+past p n = omega arith
+
 half-ends : (p n : ℕ) → (p * (n * 2) ≡ 2 * p * n) × ((p + 1) * (n * 2) ≡ (2 * p + 1 + 1) * n)
 half-ends p n = (omega arith, omega arith)
 
 -- a page left, its first entry, and the entry behind its last
-abbrev leftPage : File → ℕ → Page
+abbrev pub leftPage : File → ℕ → Page
 leftPage f m = getD (pagesLeft f) m zeroPage
 
-abbrev leftFrom : File → ℕ → ℕ
+abbrev pub leftFrom : File → ℕ → ℕ
 leftFrom f m = firstEntry (f .g) (leftPage f m)
 
-abbrev leftTo : File → ℕ → ℕ
+abbrev pub leftTo : File → ℕ → ℕ
 leftTo f m = leftFrom f m + 2 ^ (f .g - leftPage f m .depth)
 
 module _ (f : File) (ok : FileOk f) where
   abbrev g : ℕ
   g = f .g
 
+  -- the walk through a pattern's entries gathers these records
   abbrev Walked : ℕ → ℕ → List Rec → Type 0
   Walked l p rs = (e : ℕ) → (p + 1) * 2 ^ (g - l) ≤ e → gathered f (p * 2 ^ (g - l)) e ≡ rs ++ gathered f ((p + 1) * 2 ^ (g - l)) e
 
@@ -122,11 +132,11 @@ module _ (f : File) (ok : FileOk f) where
       : (x l p : ℕ) → PageNo f x → pageAt f x .depth ≡ l → pageAt f x .pattern ≡ p → Walked l p (pageAt f x .records)
   unfolding firstEntry
   walked-own x l p n d i e h =
-      let at : p * 2 ^ (g - l) ≡ firstEntry g (pageAt f x) = rw (d, i) in
+      let at : p * 2 ^ (g - l) ≡ entryFrom f x = rw (d, i) in
       let w : pageOn f (p * 2 ^ (g - l)) ≡ pageAt f x = ap (pageOn f) at ∙ own-page f ok x n in
       let pos = pow-pos (g - l) in
-      let z : p * 2 ^ (g - l) + 2 ^ (g - l) ≡ (p + 1) * 2 ^ (g - l) = omega arith in
-      rw (w, d, z) at (gathered-step f (p * 2 ^ (g - l)) e (omega arith))
+      let z = past p (2 ^ (g - l)) in
+      rw (w, d, ← z) at (gathered-step f (p * 2 ^ (g - l)) e (omega arith))
 
   walked-halves
       : (l p : ℕ) (xs ys : List Rec)
@@ -135,8 +145,7 @@ module _ (f : File) (ok : FileOk f) where
       → Walked (suc l) (2 * p + 1) ys
       → Walked l p (xs ++ ys)
   walked-halves l p xs ys h a b e u =
-      let z : g - l ≡ suc (g - suc l) = omega arith in
-      let w : 2 ^ (g - l) ≡ 2 ^ (g - suc l) * 2 = ap (λ n. 2 ^ n) z ∙ pow-suc 2 (g - suc l) in
+      let w = twice g l h in
       let (from, to) = half-ends p (2 ^ (g - suc l)) in
       let u' : (2 * p + 1 + 1) * 2 ^ (g - suc l) ≤ e = rw (w, to) at u in
       rw (w, from, to, append-assoc) (a e (omega arith) ∙ ap (λ rs. xs ++ rs) (b e (omega arith)))
@@ -208,12 +217,15 @@ module _ (f : File) (ok : FileOk f) where
       next (renamed (w .0) (w .1) (pair h s t e)) end
   by-itself (apart {xs = xs} {ys = ys} h s t e) = each-append xs ys (by-itself s) (by-itself t)
 
-  sole-records : (q : Page) → Left f (q .depth) (q .pattern) (q ∷ []) → merged [] (gathered f (firstEntry g q) (firstEntry g q + 2 ^ (g - q .depth))) ≡ q .records
+  sole-records
+      : (q : Page)
+      → Left f (q .depth) (q .pattern) (q ∷ [])
+      → merged [] (gathered f (firstEntry g q) (firstEntry g q + 2 ^ (g - q .depth))) ≡ q .records
   unfolding firstEntry
   sole-records q s =
       let at = q .pattern * 2 ^ (g - q .depth) in
       let to = at + 2 ^ (g - q .depth) in
-      let e : (q .pattern + 1) * 2 ^ (g - q .depth) ≡ q .pattern * 2 ^ (g - q .depth) + 2 ^ (g - q .depth) = omega arith in
+      let e = past (q .pattern) (2 ^ (g - q .depth)) in
       let w : gathered f at to ≡ raw s = walked s to (omega arith) ∙ ap (λ rs. raw s ++ rs) (gathered-end f _ to (omega arith)) ∙ append-nil (raw s) in
       ap (merged []) w ∙ gives s refl .1
 
@@ -230,27 +242,31 @@ module _ (f : File) (ok : FileOk f) where
 
   -- a page in use whose first entry is under a pattern has all its entries there
   abbrev Ends : ℕ → ℕ → Type 0
-  Ends l p = (x : ℕ) → PageNo f x → p * 2 ^ (g - l) ≤ firstEntry g (pageAt f x) → firstEntry g (pageAt f x) < (p + 1) * 2 ^ (g - l) → firstEntry g (pageAt f x) + 2 ^ (g - pageAt f x .depth) ≤ (p + 1) * 2 ^ (g - l)
+  Ends l p =
+      (x : ℕ)
+      → PageNo f x
+      → p * 2 ^ (g - l) ≤ entryFrom f x
+      → entryFrom f x < (p + 1) * 2 ^ (g - l)
+      → entryTo f x ≤ (p + 1) * 2 ^ (g - l)
 
   ends-own : (y l p : ℕ) → PageNo f y → pageAt f y .depth ≡ l → pageAt f y .pattern ≡ p → Ends l p
   unfolding firstEntry
   ends-own y l p n d i x m a b =
-      let at : p * 2 ^ (g - l) ≡ firstEntry g (pageAt f y) = rw (d, i) in
-      let to : (p + 1) * 2 ^ (g - l) ≡ p * 2 ^ (g - l) + 2 ^ (g - l) = omega arith in
-      let u : firstEntry g (pageAt f y) ≤ firstEntry g (pageAt f x) = rw (← at) a in
-      let v : firstEntry g (pageAt f x) < firstEntry g (pageAt f y) + 2 ^ (g - pageAt f y .depth) = rw (← at, d) (omega arith) in
-      let w : pageAt f x ≡ pageAt f y = sym (own-page f ok x m) ∙ range-page f ok y (firstEntry g (pageAt f x)) n u v in
+      let at : p * 2 ^ (g - l) ≡ entryFrom f y = rw (d, i) in
+      let to = past p (2 ^ (g - l)) in
+      let u : entryFrom f y ≤ entryFrom f x = rw (← at) a in
+      let v : entryFrom f x < entryTo f y = rw (← at, d) (omega arith) in
+      let w : pageAt f x ≡ pageAt f y = sym (own-page f ok x m) ∙ range-page f ok y (entryFrom f x) n u v in
       rw w (rw (← at, d) (omega arith))
 
   ends-halves : (l p : ℕ) → l < g → Ends (suc l) (2 * p) → Ends (suc l) (2 * p + 1) → Ends l p
   ends-halves l p h s t x n a b =
-      let z : g - l ≡ suc (g - suc l) = omega arith in
-      let w : 2 ^ (g - l) ≡ 2 ^ (g - suc l) * 2 = ap (λ n. 2 ^ n) z ∙ pow-suc 2 (g - suc l) in
+      let w = twice g l h in
       let (from, to) = half-ends p (2 ^ (g - suc l)) in
-      let a' : 2 * p * 2 ^ (g - suc l) ≤ firstEntry g (pageAt f x) = rw (w, from) at a in
-      let b' : firstEntry g (pageAt f x) < (2 * p + 1 + 1) * 2 ^ (g - suc l) = rw (w, to) at b in
+      let a' : 2 * p * 2 ^ (g - suc l) ≤ entryFrom f x = rw (w, from) at a in
+      let b' : entryFrom f x < (2 * p + 1 + 1) * 2 ^ (g - suc l) = rw (w, to) at b in
       rw (w, to)
-      (by-cases (decLt (firstEntry g (pageAt f x)) ((2 * p + 1) * 2 ^ (g - suc l)))
+      (by-cases (decLt (entryFrom f x) ((2 * p + 1) * 2 ^ (g - suc l)))
       (λ i. let r = s x n a' i in omega arith)
       (λ i. t x n (omega arith) b'))
 
@@ -263,11 +279,11 @@ module _ (f : File) (ok : FileOk f) where
       : (m x : ℕ)
       → m < length (pagesLeft f)
       → PageNo f x
-      → leftFrom f m ≤ firstEntry g (pageAt f x)
-      → firstEntry g (pageAt f x) < leftTo f m
-      → firstEntry g (pageAt f x) + 2 ^ (g - pageAt f x .depth) ≤ leftTo f m
+      → leftFrom f m ≤ entryFrom f x
+      → entryFrom f x < leftTo f m
+      → entryTo f x ≤ leftTo f m
   unfolding firstEntry
   left-step m x l n a b =
       let q = leftPage f m in
-      let e : (q .pattern + 1) * 2 ^ (g - q .depth) ≡ q .pattern * 2 ^ (g - q .depth) + 2 ^ (g - q .depth) = omega arith in
+      let e = past (q .pattern) (2 ^ (g - q .depth)) in
       rw (← e) (ends (each-at (pagesLeft f) m zeroPage l (by-itself (pages-left f ok))) x n a (rw e b))
