@@ -240,6 +240,11 @@ module _ (f : File) (ok : FileOk f) where
   pub left-range : (m : ℕ) → m < length (pagesLeft f) → leftTo f m ≤ 2 ^ g
   left-range m l = page-range g (f .c) (leftPage f m) (each-at (pagesLeft f) m zeroPage l (left-right f ok) .ok)
 
+  -- so each of them names a page in use
+  pub left-named : (m j : ℕ) → m < length (pagesLeft f) → j < leftTo f m → PageNo f (entryAt f j)
+  unfolding entryAt
+  left-named m j l h = ok .fit .entries j (omega (arith, left-range m l))
+
   -- a page in use whose first entry is under a pattern has all its entries there
   abbrev Ends : ℕ → ℕ → Type 0
   Ends l p =
@@ -275,6 +280,7 @@ module _ (f : File) (ok : FileOk f) where
   ends {l} {p} (pair h s t e) = ends-halves l p (left-deep f ok s) (ends s) (ends t)
   ends {l} {p} (apart h s t e) = ends-halves l p (left-deep f ok s) (ends s) (ends t)
 
+  -- and so a step of the walk from a page's first entry goes no further than the page left
   pub left-step
       : (m x : ℕ)
       → m < length (pagesLeft f)
