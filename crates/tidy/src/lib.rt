@@ -1,2 +1,4 @@
 // Tidying between runs.
+mod directory;
 mod left;
+mod pages;

@@ -7,6 +7,7 @@ use lib.Dec.{eqb, ltb, leb}
 use Rattle.spec.specs.declared.Rec.{Rec}
 use Rattle.spec.specs.Basics.{if}
 use Rattle.spec.specs.File.{Page, File, pageAt, entryAt}
+use Rattle.spec.specs.Tidy.{merged}
 
 -- the page that entry j names
 unfoldable pub pageOn : File → ℕ → Page
@@ -55,6 +56,12 @@ recordsFrom (suc n) f j e = if (ltb j e) (pageOn f j .records ++ recordsFrom n f
 
 unfoldable pub gathered : File → ℕ → ℕ → List Rec
 gathered f j e = recordsFrom (e - j) f j e
+
+-- the page of depth l whose first entry is j, with all records of its entries' pages, by rising call
+unfoldable pub pageFrom : File → ℕ → ℕ → Page
+pageFrom f j l =
+    let n = 2 ^ (f .g - l) in
+    record { depth = l; pattern = j / n; records = merged [] (gathered f j (j + n)) }
 
 -- where page k begins, counted from 0, of pages with these depths, in a directory of depth d
 unfoldable pub startOf : ℕ → List ℕ → ℕ → ℕ
