@@ -1,3 +1,5 @@
 -- No contract cites this file.
 -- what the header and the proper file that are given tell
 pub mod Known
+-- the numbers of records before each entry
+pub mod Counting
