@@ -1,19 +1,19 @@
 -- The numbers of records before each entry, written one behind another; how many lie under a pattern; the least depth that leaves few enough.
 use Prim.Native.Nat.{ℕ, _+_, _-_, _*_, _/_, _%_, _^_, _<_, _≤_}
-use mathlib.Core.Path.{_≡_, sym, _∙_}
+use mathlib.Core.Path.{_≡_, sym, ap, _∙_}
 use mathlib.Core.Logic.{by-cases}
-use mathlib.Core.List.{List}
+use mathlib.Core.List.{List, [], _∷_, _++_, append-assoc, append-nil}
 use native.Mathlib.Omega.{arith}
 use native.Mathlib.Decide.{ℕ-discrete}
 use native.Mathlib.Numerals.{add-one}
-use lib.ListN.{length, getD, set}
-use lib.Seq.{getD-set-same, getD-set-other}
+use lib.ListN.{length, getD, set, take, length-set}
+use lib.Seq.{getD-set-same, getD-set-other, take-suc, take-set-le}
 use lib.Pow.{shr-lt}
 use Rattle.spec.specs.File.{File}
 use Rattle.spec.specs.Decode.{fileOf}
-use Rattle.laws.specs.Tidy.Entries.{recordsAt, recordsBefore, recordsUnder, depthFrom}
+use Rattle.laws.specs.Tidy.Entries.{recordsAt, recordsBefore, recordsUnder, depthFrom, depthOn, depthsLeft}
 use Rattle.laws.specs.Tidy.Spans.{before-zero, before-step, entries-in}
-use Rattle.laws.specs.Tidy.Depths.{depth-here, depth-next, depth-last}
+use Rattle.laws.specs.Tidy.Depths.{depth-here, depth-next, depth-last, depths-end, depths-step}
 use Rattle.header.specs.declared.Header.{Header}
 use Rattle.tidy.specs.Given.{Given, Counted}
 use Rattle.tidy.proofs.Known.{shifted, depth-is, capacity-is}
@@ -80,3 +80,29 @@ pub ends : {h : Header} {b : List ℕ} (e : Given h b) (j l : ℕ) → l ≡ h .
 ends {h} {b} e j l q =
     let z : l ≡ fileOf b .g = q ∙ sym (depth-is e) in
     rw z (depth-last (fileOf b) j) ∙ depth-is e
+
+-- ---- the depths found so far, and those from entry j on
+
+pub depths-next
+    : {h : Header} {b : List ℕ} (e : Given h b) (left : List ℕ) (k j l n : ℕ)
+    → k < length left
+    → j < 2 ^ h .depth
+    → l ≡ depthOn (fileOf b) j
+    → n ≡ 2 ^ (h .depth - l)
+    → take k left ++ depthsLeft (fileOf b) j ≡ depthsLeft (fileOf b) 0
+    → take (k + 1) (set left k l) ++ depthsLeft (fileOf b) (j + n) ≡ depthsLeft (fileOf b) 0
+depths-next {h} {b} e left k j l n u v is run all =
+    let f = fileOf b in
+    let g = depth-is e in
+    let one : take (k + 1) (set left k l) ≡ take k left ++ (l ∷ [])
+    = rw (add-one k, take-suc (set left k l) k 0 (rw length-set u), take-set-le k left k l (omega arith), getD-set-same left k l 0 u) in
+    let more : l ∷ depthsLeft f (j + n) ≡ depthsLeft f j = rw (run, is, ← g) (sym (depths-step f j (rw g v))) in
+    rw one (append-assoc (take k left) (l ∷ []) (depthsLeft f (j + n)) ∙ ap (λ w. take k left ++ w) more ∙ all)
+
+pub depths-all
+    : {h : Header} {b : List ℕ} (e : Given h b) (left : List ℕ) (k j : ℕ)
+    → 2 ^ h .depth ≤ j
+    → take k left ++ depthsLeft (fileOf b) j ≡ depthsLeft (fileOf b) 0
+    → take k left ≡ depthsLeft (fileOf b) 0
+depths-all {h} {b} e left k j v all =
+    sym (append-nil (take k left)) ∙ ap (λ w. take k left ++ w) (sym (depths-end (fileOf b) j (rw (depth-is e) v))) ∙ all
