@@ -12,10 +12,10 @@ use lib.Pow.{shr-lt}
 use Rattle.spec.specs.File.{File}
 use Rattle.spec.specs.Decode.{fileOf}
 use Rattle.laws.specs.Tidy.Entries.{recordsAt, recordsBefore, recordsUnder, depthFrom, depthOn, depthsLeft}
-use Rattle.laws.specs.Tidy.Spans.{before-zero, before-step, entries-in}
+use Rattle.laws.specs.Tidy.Spans.{before-zero, before-step, before-mono, entries-in}
 use Rattle.laws.specs.Tidy.Depths.{depth-here, depth-next, depth-last, depths-end, depths-step}
 use Rattle.header.specs.declared.Header.{Header}
-use Rattle.tidy.specs.Given.{Given, Counted}
+use Rattle.tidy.specs.Given.{Given, Climbs, Counted}
 use Rattle.tidy.proofs.Known.{shifted, depth-is, capacity-is}
 
 -- those up to entry j are there
@@ -38,6 +38,14 @@ upto-next f s j v l e h i u =
 
 add-mul : (q n : ℕ) → (q + 1) * n ≡ q * n + n
 add-mul q n = omega arith
+
+pub counted-climbs : {h : Header} {b : List ℕ} (e : Given h b) (s : List ℕ) → Counted (fileOf b) s → 256 < length s → Climbs (2 ^ h .depth) s
+counted-climbs {h} {b} e s c l =
+    let g = depth-is e in
+    record {
+      size = omega (arith, shifted (h .depth) (e .heads .limits .depth) .1);
+      climbs = λ i j u v. rw (c i (rw g (omega arith)), c j (rw g v)) (before-mono (fileOf b) i j u);
+    }
 
 -- the entries of the pattern of l bits that begins entry j: n of them, from the first on
 pub record Block (g l j n : ℕ) : Type 0 where
