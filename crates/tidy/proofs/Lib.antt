@@ -1,0 +1,2 @@
+-- No contract cites this file.
+pub mod Gather
