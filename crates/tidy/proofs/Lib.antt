@@ -1,2 +1,7 @@
 -- No contract cites this file.
+-- what the header and the proper file that are given tell
+pub mod Known
+-- the numbers of records before each entry
+pub mod Counting
+-- records put among others
 pub mod Gather
