@@ -1,7 +1,7 @@
 -- Records put among others, one after another: those of a page, and those of the pages along the directory.
 use mathlib.Core.Path.{_≡_, refl, sym, ap, _∙_}
-use mathlib.Core.List.{List, [], _∷_, _++_, append-assoc, append-nil}
-use Prim.Native.Nat.{ℕ, zero, suc, _+_, _-_, _*_, _%_, _^_, _≤_, _<_}
+use mathlib.Core.List.{List, [], _++_, append-assoc, append-nil}
+use Prim.Native.Nat.{ℕ, zero, suc, _+_, _-_, _*_, _/_, _%_, _^_, _≤_, _<_}
 use native.Mathlib.Nat.{zero-add}
 use native.Mathlib.Numerals.{add-one}
 use native.Mathlib.Omega.{arith}
@@ -12,7 +12,7 @@ use Rattle.spec.specs.Basics.{each, Each, end}
 use Rattle.spec.specs.Bytes.{byte}
 use Rattle.spec.specs.File.{Page, File, pageAt, entryAt, putIn}
 use Rattle.spec.specs.Job.{pageSize, tableOffset}
-use Rattle.spec.specs.Encode.{recordBytes}
+use Rattle.spec.specs.Encode.{recordBytes, pageBytes}
 use Rattle.spec.specs.Decode.{headerOf, pageParts, pageOf, fileOf}
 use Rattle.spec.specs.Tidy.{merged}
 use Rattle.laws.specs.Tools.{each-append, each-or}
@@ -24,13 +24,15 @@ use Rattle.laws.specs.Codec.Pages.{page-at}
 use Rattle.laws.specs.Codec.Sections.{length-records}
 use Rattle.laws.specs.Turns.CallsRise.{put-length}
 use Rattle.laws.specs.Tidy.Merged.{merged-length, merged-each, merged-nil, merged-append, merged-snoc}
-use Rattle.laws.specs.Tidy.Entries.{pageOn, gathered}
+use Rattle.laws.specs.Tidy.Entries.{pageOn, gathered, pageFrom}
 use Rattle.laws.specs.Tidy.Gathered.{gathered-step, gathered-end}
 use Rattle.wire.specs.Over.{over}
 use Rattle.wire.specs.OverLaws.{over-none, over-again, length-over}
 use Rattle.header.specs.declared.Header.{Header}
 use Rattle.page.specs.View.{recordAt, recordsFrom, records-none, records-snoc, records-length}
-use Rattle.page.specs.ImageLaws.{owns}
+use Rattle.page.specs.Room.{room, room-size}
+use Rattle.page.specs.Image.{closed}
+use Rattle.page.specs.ImageLaws.{owns, closed-image}
 use Rattle.page.specs.KeepLaws.{records-fit, records-back}
 use Rattle.tidy.specs.Given.{Given, Shows}
 use Rattle.tidy.proofs.Known.{shown-depth, count-shown, shifted, depth-is}
@@ -103,7 +105,10 @@ module _ {f : File} {from to : ℕ} {s t : List ℕ} {n j : ℕ} (g : Gathers f 
       : j < to
       → Each RecFits (pageOn f j .records)
       → pageSize n ≤ length s
-      → Gathers f from to s (over t 4 (each recordBytes (merged (recordsFrom t 0 n) (pageOn f j .records)))) (n + length (pageOn f j .records)) (j + 2 ^ (f .g - pageOn f j .depth))
+      → Gathers f from to s
+      (over t 4 (each recordBytes (merged (recordsFrom t 0 n) (pageOn f j .records))))
+      (n + length (pageOn f j .records))
+      (j + 2 ^ (f .g - pageOn f j .depth))
   gathers-more l fits room =
       let q = pageOn f j .records in
       let rest = gathered f (j + 2 ^ (f .g - pageOn f j .depth)) to in
@@ -163,3 +168,32 @@ module _ {h : Header} {b : List ℕ} (e : Given h b) {from to : ℕ} {s t : List
       let run = shifted (h .depth - d) (omega (arith, e .heads .limits .depth)) in
       rw (written, many, run .0, deep, there .is, ← depth-is e)
       (gathers-more g l (page-records-fit b (entryAt (fileOf b) j) bytes) room)
+
+-- ---- the page of depth l whose first entry is j
+module _ {h : Header} {b : List ℕ} (e : Given h b) (j l : ℕ) where
+  -- its entries' records, and the page
+  abbrev pub under : List Rec
+  under = gathered (fileOf b) j (j + 1 * 2 ^ (h .depth - l) % 2 ^ 64)
+
+  from-under : pageFrom (fileOf b) j l ≡ record { depth = l; pattern = j / 2 ^ (h .depth - l); records = merged [] under }
+  unfolding pageFrom
+  from-under = rw (shifted (h .depth - l) (omega (arith, e .heads .limits .depth)) .0, depth-is e)
+
+  pub under-range : j + 2 ^ (h .depth - l) ≤ 2 ^ h .depth → j + 1 * 2 ^ (h .depth - l) % 2 ^ 64 ≤ 2 ^ h .depth
+  under-range k = omega (arith, shifted (h .depth - l) (omega (arith, e .heads .limits .depth)) .0)
+
+  pub under-few : length (pageFrom (fileOf b) j l .records) ≤ h .capacity → length under ≤ h .capacity
+  under-few k = omega (arith, ap (λ (q : Page). length (q .records)) from-under, merged-length [] under)
+
+  pub under-closed
+      : (s t : List ℕ) (n : ℕ)
+      → length s ≡ pageSize (h .capacity)
+      → length (pageFrom (fileOf b) j l .records) ≤ h .capacity
+      → n ≡ length under
+      → t ≡ over s 4 (each recordBytes (merged [] under))
+      → closed t l n (j / 2 ^ (h .depth - l)) ≡ pageBytes (h .capacity) (pageFrom (fileOf b) j l)
+  under-closed s t n size few many written =
+      let r : room (length s) ≡ h .capacity = rw size (room-size (h .capacity)) in
+      let image =
+      closed-image s (merged [] under) l n (j / 2 ^ (h .depth - l)) (rw r size) (omega (arith, many, merged-length [] under)) (omega (arith, r, under-few few, many)) in
+      rw (written, from-under) (rw r at image)

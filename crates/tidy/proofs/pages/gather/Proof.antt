@@ -1,6 +1,6 @@
 -- `pages::gather` meets its contract: the records before entry j are in, and the page that entry j names comes next.
 use mathlib.Core.Path.{_≡_, refl}
-use Prim.Native.Nat.{_+_, _-_, _^_, _≤_}
+use Prim.Native.Nat.{_-_}
 use native.Mathlib.Omega.{arith}
 use lib.ListN.{length}
 use Rattle.spec.specs.Bytes.{byte}
@@ -36,7 +36,9 @@ depth-requires c κs = omega (arith, c .before .before .before .before .page-on 
 sub-j : tie.Need-sub-j Inv-loop μ-loop
 sub-j c =
     let l = c .before .before .before .before .before .before .before .before .loop in
-    step-deep (c .before .before .before .before .before .before .before .before .before .before .before .pre .0) (l .inv .1) (omega arith) (c .before .before .before .before .before .before .page-on .ensures) _ (c .before .depth .ensures .0)
+    let q = c .before .before .before .before .before .before .before .before .before .before .before .pre in
+    let there = c .before .before .before .before .before .before .page-on .ensures in
+    step-deep (q .0) (l .inv .1) (omega arith) there _ (c .before .depth .ensures .0)
 
 shl-j : tie.Need-shl-j Inv-loop μ-loop
 shl-j c = omega (arith, c .before .before .before .before .before .before .before .before .before .before .before .pre .0 .heads .limits .depth)
