@@ -3,3 +3,5 @@
 pub mod Known
 -- the numbers of records before each entry
 pub mod Counting
+-- records put among others
+pub mod Gather
