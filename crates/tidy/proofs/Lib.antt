@@ -3,5 +3,7 @@
 pub mod Known
 -- the numbers of records before each entry
 pub mod Counting
+-- the refusals of an accepted file
+pub mod Refused
 -- records put among others
 pub mod Gather

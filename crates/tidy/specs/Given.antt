@@ -1,8 +1,10 @@
 -- What tidying is given, and what its steps leave for one another.
 use Prim.Native.Nat.{ℕ, _+_, _^_, _<_, _≤_}
 use mathlib.Core.Path.{_≡_}
-use mathlib.Core.List.{List}
+use mathlib.Core.Bool.{Bool, false, _||_}
+use mathlib.Core.List.{List, [], _∷_}
 use lib.ListN.{length, getD}
+use lib.Dec.{ltb}
 use Rattle.spec.specs.Basics.{Each}
 use Rattle.spec.specs.Bytes.{byte}
 use Rattle.spec.specs.File.{Page, File}
@@ -38,3 +40,8 @@ Counted f s = (j : ℕ) → j ≤ 2 ^ f .g → getD s j 0 ≡ recordsBefore f j
 pub record Fills (d : ℕ) (ls : List ℕ) : Type 0 where
   pub deep : Each (λ l. l ≤ d) ls
   pub total : startOf d ls (length ls) ≡ 2 ^ d
+
+-- one of some depths is above d
+unfoldable pub anyDeeper : ℕ → List ℕ → Bool
+anyDeeper d [] = false
+anyDeeper d (l ∷ ls) = ltb d l || anyDeeper d ls

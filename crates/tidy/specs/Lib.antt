@@ -1,2 +1,3 @@
 -- what the contracts cite
 pub mod Given
+pub mod Call

@@ -1,0 +1,31 @@
+-- What a call of `tidy` comes to.
+use Prim.Native.Nat.{ℕ}
+use mathlib.Core.Path.{_≡_}
+use mathlib.Core.List.{List}
+use mathlib.Core.Option.{Option, none}
+use lib.ListN.{length}
+use Rattle.spec.specs.declared.Outcome.{Outcome}
+use Rattle.spec.specs.Basics.{orElse}
+use Rattle.spec.specs.Check.{Fault, numbered}
+use Rattle.spec.specs.Outcome.{outcomeBy, bufferBy}
+use Rattle.spec.specs.Tidy.{opsPresent, wrongDepth, smallOut, tidyBytes, tidyFault, tidyOutcome, tidyBuffer}
+use Rattle.spec.specs.Tidied.{Tidied}
+
+-- The whole outcome for the bytes b and the wanted depth d, done or refused: what is answered, and the output buffer afterwards, which was s;
+-- and where it is done, all that is claimed of a tidied file
+pub record Settled (b : List ℕ) (d : ℕ) (s t : List ℕ) (r : Outcome) : Type 0 where
+  pub answer : r ≡ tidyOutcome (length s) d b
+  pub output : t ≡ tidyBuffer d b s
+  pub tidied : tidyFault (length s) d b ≡ none → Tidied d b
+
+-- what is refused of an accepted file: 19 and 11; and before them 18
+abbrev pub outputFault : ℕ → ℕ → List ℕ → Option Fault
+outputFault room d b = orElse (numbered 19 (wrongDepth d b)) (numbered 11 (smallOut room d b))
+
+abbrev pub fileFault : ℕ → ℕ → List ℕ → Option Fault
+fileFault room d b = orElse (numbered 18 (opsPresent b)) (outputFault room d b)
+
+-- the outcome and the buffer where this is the first fault, or there is none
+pub record Comes (fault : Option Fault) (d : ℕ) (b s t : List ℕ) (r : Outcome) : Type 0 where
+  pub answer : r ≡ outcomeBy fault (tidyBytes d b)
+  pub output : t ≡ bufferBy fault (tidyBytes d b) s
