@@ -3,14 +3,14 @@ use mathlib.Core.Path.{_≡_, sym, ap, _∙_}
 use mathlib.Core.Bool.{Bool, true, false}
 use mathlib.Core.Logic.{inr}
 use mathlib.Core.List.{List, [], _∷_, _++_, append-nil}
-use Prim.Native.Nat.{ℕ, _+_, _≤_, _<_}
+use Prim.Native.Nat.{ℕ, zero, suc, _+_, _*_, _≤_, _<_}
 use native.Mathlib.Nat.{zero-add}
 use native.Mathlib.Numerals.{add-one}
 use native.Mathlib.Omega.{arith}
 use lib.ListN.{length, take, drop, length-append}
 use lib.Seq.{drop-at, length-take-le}
 use Rattle.spec.specs.declared.Rec.{Rec}
-use Rattle.spec.specs.Basics.{each, filter, Each}
+use Rattle.spec.specs.Basics.{each, filter, Each, end, next}
 use Rattle.spec.specs.Bytes.{byte}
 use Rattle.spec.specs.File.{putIn}
 use Rattle.spec.specs.Job.{pageSize}
@@ -20,12 +20,12 @@ use Rattle.laws.specs.Tools.{each-imp, filter-each, filter-le}
 use Rattle.laws.specs.Turns.CallsRise.{put-length}
 use Rattle.laws.specs.Codec.Tools.{every, each-places}
 use Rattle.laws.specs.Codec.Parts.{parts-each}
+use Rattle.laws.specs.Codec.Numbers.{long-lt}
 use Rattle.laws.specs.Codec.Sections.{length-record, length-records}
 use Rattle.laws.specs.Codec.Back.{RecFits, record-back, map-back}
-use Rattle.laws.specs.Codec.Exact.{page-fits}
 use Rattle.wire.specs.Over.{over}
 use Rattle.wire.specs.OverLaws.{over-none, over-again, over-parts, length-over}
-use Rattle.page.specs.View.{recordAt, recordsFrom, records-all, records-none, records-snoc, records-length}
+use Rattle.page.specs.View.{recordAt, recordsFrom, record-read, records-all, records-none, records-cons, records-snoc, records-length}
 use Rattle.page.specs.Room.{room, Sound}
 use Rattle.page.specs.Image.{closed}
 use Rattle.page.specs.Keep.{Kept}
@@ -49,19 +49,19 @@ module _ {f : Rec → Bool} {s t : List ℕ} {m j : ℕ} (k : Kept f s t m j) wh
       let x = filter f (recordsFrom s 0 j) in
       ap (λ (l : List ℕ). recordAt l j) (k .bytes) ∙ record-other s (each recordBytes x) 4 j (inr (omega (arith, length-records x, k .many, kept-few)))
 
-  next : filter f (recordsFrom s 0 (j + 1)) ≡ filter f (recordsFrom s 0 j) ++ filter f (recordAt s j ∷ [])
-  next = rw (add-one, records-snoc s 0 j, zero-add) (filter-join f (recordsFrom s 0 j) (recordAt s j ∷ []))
+  one-more : filter f (recordsFrom s 0 (j + 1)) ≡ filter f (recordsFrom s 0 j) ++ filter f (recordAt s j ∷ [])
+  one-more = rw (add-one, records-snoc s 0 j, zero-add) (filter-join f (recordsFrom s 0 j) (recordAt s j ∷ []))
 
   pub kept-skip : f (recordAt s j) ≡ false → Kept f s t m (j + 1)
   kept-skip e =
       let same : filter f (recordsFrom s 0 (j + 1)) ≡ filter f (recordsFrom s 0 j) =
-      next ∙ rw (filter-skip f (recordAt s j) [] e, filter-nil f) (append-nil (filter f (recordsFrom s 0 j))) in
+      one-more ∙ rw (filter-skip f (recordAt s j) [] e, filter-nil f) (append-nil (filter f (recordsFrom s 0 j))) in
       record { many = rw same (k .many); bytes = rw same (k .bytes) }
 
   pub kept-take : f (recordAt s j) ≡ true → Kept f s (over t (pageSize m) (recordBytes (recordAt s j))) (m + 1) (j + 1)
   kept-take e =
       let x = filter f (recordsFrom s 0 j) in
-      let more : filter f (recordsFrom s 0 (j + 1)) ≡ x ++ (recordAt s j ∷ []) = next ∙ rw (filter-take f (recordAt s j) [] e, filter-nil f) in
+      let more : filter f (recordsFrom s 0 (j + 1)) ≡ x ++ (recordAt s j ∷ []) = one-more ∙ rw (filter-take f (recordAt s j) [] e, filter-nil f) in
       record {
         many = rw (more, length-append) (omega (arith, k .many));
         bytes = rw (k .bytes, more) (over-more s x m (recordAt s j) (k .many));
@@ -69,11 +69,17 @@ module _ {f : Rec → Bool} {s t : List ℕ} {m j : ℕ} (k : Kept f s t m j) wh
 
 -- ---- records written are read back
 
-records-fit : (s : List ℕ) → ((k : ℕ) → byte s k < 256) → Each RecFits (pageOf s .records)
+record-fits : (s : List ℕ) (i : ℕ) → ((k : ℕ) → byte s k < 256) → RecFits (recordAt s i)
 unfolding byte
-records-fit s b = page-fits s (each-places s 0 .1 (λ k l. b k))
+record-fits s i b =
+    let h = each-places s 0 .1 (λ k l. b k) in
+    rw (record-read s i) (record { call = long-lt s h (4 + 8 * i); charge = long-lt s h (8 + 8 * i) })
 
-records-back : (s : List ℕ) (x : List Rec) (m : ℕ) → length x ≡ m → Each RecFits x → pageSize m ≤ length s → recordsFrom (over s 4 (each recordBytes x)) 0 m ≡ x
+pub records-fit : (s : List ℕ) (i n : ℕ) → ((k : ℕ) → byte s k < 256) → Each RecFits (recordsFrom s i n)
+records-fit s i zero b = rw (records-none s i) end
+records-fit s i (suc n) b = rw (records-cons s i n) (next (record-fits s i b) (records-fit s (suc i) n b))
+
+pub records-back : (s : List ℕ) (x : List Rec) (m : ℕ) → length x ≡ m → Each RecFits x → pageSize m ≤ length s → recordsFrom (over s 4 (each recordBytes x)) 0 m ≡ x
 unfolding recordsFrom
 records-back s x m e h l =
     let y = each recordBytes x in
@@ -100,7 +106,7 @@ module _ {f : Rec → Bool} {s t : List ℕ} {m : ℕ} (k : Kept f s t m (byte s
       ≡ pageBytes (room (length s)) (record { depth = d; pattern = pattern; records = putIn (filter f (pageOf s .records)) r })
   kept-image-more r b h =
       let x = filter f (recordsFrom s 0 (byte s 1)) in
-      let fits : Each RecFits x = filter-each f (recordsFrom s 0 (byte s 1)) (λ a w u. w) (rw (records-all s) at (records-fit s b)) in
+      let fits : Each RecFits x = filter-each f (recordsFrom s 0 (byte s 1)) (λ a w u. w) (records-fit s 0 (byte s 1) b) in
       let back : recordsFrom t 0 m ≡ x = rw (k .bytes) (records-back s x m (k .many) fits (omega (arith, o .size))) in
       let more = put-length x r in
       rw (back, k .bytes, over-again (each recordBytes x) (each recordBytes (putIn x r)) s 4 (omega (arith, length-records x, length-records (putIn x r), more)), records-all s)

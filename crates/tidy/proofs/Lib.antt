@@ -1,3 +1,9 @@
 -- No contract cites this file.
+-- what the header and the proper file that are given tell
+pub mod Known
+-- the numbers of records before each entry
+pub mod Counting
+-- records put among others
+pub mod Gather
 -- the directory and the page table, written front to back
 pub mod Table

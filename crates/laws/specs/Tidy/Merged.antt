@@ -72,6 +72,11 @@ unfolding merged
 merged-append xs [] zs = refl
 merged-append xs (a ∷ ys) zs = merged-append (putIn xs a) ys zs
 
+pub merged-snoc : (xs ys : List Rec) (a : Rec) → merged xs (ys ++ (a ∷ [])) ≡ putIn (merged xs ys) a
+unfolding merged
+merged-snoc xs [] a = refl
+merged-snoc xs (b ∷ ys) a = merged-snoc (putIn xs b) ys a
+
 -- records put in order first: the same is found among them, and the same list comes of putting them in
 pub sorted-find : (ys : List Rec) (k : ℕ) → NoneTwice ys → findIn (merged [] ys) k ≡ findIn ys k
 sorted-find ys k t = merged-right [] ys k t (find-nil k)
