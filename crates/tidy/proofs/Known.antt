@@ -4,7 +4,7 @@ use mathlib.Core.Path.{_≡_, refl, sym, ap, _∙_}
 use mathlib.Core.List.{List, []}
 use native.Mathlib.Omega.{arith}
 use native.Mathlib.Nat.{mul-le-mul, mod-eq-of-lt}
-use lib.Pow.{pow-mono}
+use lib.Pow.{pow-mono, pow-pos}
 use lib.ListN.{length, getD}
 use Rattle.spec.specs.Bytes.{byte}
 use Rattle.spec.specs.File.{Page, pageAt, entryAt}
@@ -31,6 +31,15 @@ shifted n l =
     let m : 2 ^ n ≤ 2 ^ 8 = pow-mono l in
     let z : 1 * 2 ^ n ≡ 2 ^ n = omega arith in
     (rw z (mod-eq-of-lt (omega arith)), m)
+
+-- as code has it: the number of a page's entries
+pub record Run (n : ℕ) : Type 0 where
+  pub is : 1 * 2 ^ n % 2 ^ 64 ≡ 2 ^ n
+  pub few : 2 ^ n ≤ 256
+  pub some : 0 < 2 ^ n
+
+pub run-of : (n : ℕ) → n ≤ 8 → Run n
+run-of n l = let m = shifted n l in record { is = m .0; few = m .1; some = pow-pos n }
 
 module _ {h : Header} {b : List ℕ} (e : Given h b) where
   pub depth-is : fileOf b .g ≡ h .depth

@@ -54,8 +54,10 @@ fn records_under(h: Header, before: &[u16], l: usize, j: usize) -> usize
     ensures { λ r. ⌜ ((b : List ℕ) → Given h b → Counted (fileOf b) (now (before .entry)) → r ≡ recordsUnder (fileOf b) l j) ⌝ }
 {
     let shift = h.depth - l;
-    let from = (j >> shift) << shift;
-    (before[from + (1 << shift)] - before[from]) as usize
+    let run: usize = 1 << shift;
+    let from = (j >> shift) * run;
+    let to = from + run;
+    (before[to] - before[from]) as usize
 }
 
 // The depth of the page left of which entry j is: the least that leaves at most c records.

@@ -1,8 +1,7 @@
 -- `pages::put_all` meets its contract: the first i records of the page are put in; what is written is read back.
-use mathlib.Core.Path.{_≡_, refl, sym, _∙_}
-use Prim.Native.Nat.{_+_, _-_, _≤_}
+use mathlib.Core.Path.{_≡_, refl, _∙_}
+use Prim.Native.Nat.{_-_, _≤_}
 use native.Mathlib.Omega.{arith}
-use borrow.Author.Needs.{needs}
 use lib.ListN.{length}
 use Rattle.spec.specs.Basics.{each}
 use Rattle.spec.specs.Bytes.{byte}
