@@ -1,6 +1,6 @@
 -- The directory and the page table, written front to back: one round of each loop, and the end.
 use mathlib.Core.Path.{_≡_, refl, sym, ap, _∙_}
-use mathlib.Core.List.{List, [], _∷_, _++_, map}
+use mathlib.Core.List.{List, _++_, map}
 use Prim.Native.Nat.{ℕ, zero, suc, _+_, _-_, _*_, _^_, _≤_, _<_}
 use native.Mathlib.Nat.{add-sub-cancel-left, mul-le-mul, mul-le-mul-left}
 use native.Mathlib.Numerals.{add-one}
@@ -14,12 +14,12 @@ use Rattle.spec.specs.File.{Page, zeroPage}
 use Rattle.spec.specs.Encode.{pageBytes}
 use Rattle.spec.specs.Decode.{fileOf}
 use Rattle.spec.specs.Tidy.{pagesLeft}
-use Rattle.laws.specs.Tools.{each-imp, each-at}
+use Rattle.laws.specs.Tools.{each-imp}
 use Rattle.laws.specs.Codec.Tools.{every, each-map}
 use Rattle.laws.specs.Codec.Parts.{each-join, each-snoc, length-each}
 use Rattle.laws.specs.Codec.Sections.{length-page}
 use Rattle.laws.specs.Tidy.Left.{pages-left}
-use Rattle.laws.specs.Tidy.Kept.{Right, left-tiles, left-right, left-few}
+use Rattle.laws.specs.Tidy.Kept.{left-tiles, left-right, left-few}
 use Rattle.laws.specs.Tidy.Depths.{depths-left}
 use Rattle.laws.specs.Tidy.Gathered.{left-page}
 use Rattle.laws.specs.Tidy.Entries.{startOf, spread, depthsLeft, pageFrom}
@@ -105,13 +105,13 @@ module _ (g : ℕ) (ls : List ℕ) where
 times-rest : (s k n : ℕ) → k ≤ n → s * n ≡ s * k + s * (n - k)
 times-rest s k n h = let z : n ≡ k + (n - k) = omega arith in ap (λ m. s * m) z ∙ (omega arith)
 
-pub place-end : (s k n : ℕ) → k ≤ n → s * k ≤ s * n
+place-end : (s k n : ℕ) → k ≤ n → s * k ≤ s * n
 place-end s k n h = mul-le-mul-left s h
 
-pub place-next : (s k n : ℕ) → k < n → s * k + s ≤ s * n
+place-next : (s k n : ℕ) → k < n → s * k + s ≤ s * n
 place-next s k n h = let z : s * k + s ≡ s * (k + 1) = omega arith in rw z (place-end s (k + 1) n (omega arith))
 
-pub table-short : (s n : ℕ) → s ≤ 68 → n ≤ 256 → s * n ≤ 17408
+table-short : (s n : ℕ) → s ≤ 68 → n ≤ 256 → s * n ≤ 17408
 table-short s n a b = mul-le-mul a b
 
 -- ---- what is known of the pages left
@@ -123,13 +123,13 @@ module _ {h : Header} {b : List ℕ} (o : Given h b) (left : List ℕ) (known : 
   depths : left ≡ map (λ (q : Page). q .depth) ps
   depths = known ∙ depths-left (fileOf b) (o .ok)
 
-  pub as-many : length left ≡ length ps
+  as-many : length left ≡ length ps
   as-many = ap length depths ∙ length-map ps (λ (q : Page). q .depth)
 
   depth-at : (k : ℕ) → getD left k 0 ≡ getD ps k zeroPage .depth
   depth-at k = rw depths (List·getD-map (λ (q : Page). q .depth) ps k zeroPage)
 
-  pub enough : length ps ≤ h .pages
+  enough : length ps ≤ h .pages
   enough = omega (arith, left-few (fileOf b) (o .ok), o .ok .fit .within, pages-is o)
 
   shallow : Each (λ q. q .depth ≤ h .depth) ps
@@ -144,6 +144,33 @@ module _ {h : Header} {b : List ℕ} (o : Given h b) (left : List ℕ) (known : 
       record {
         deep = rw depths (each-map (λ (q : Page). q .depth) ps .1 shallow);
         total = rw depths (rw length-map (tiles-total (h .depth) ps (left-tiles (pages-left (fileOf b) (o .ok))) shallow));
+      }
+
+  -- where page k stands, pages having s bytes each
+  pub record Sizes (s k : ℕ) (table : List ℕ) : Type 0 where
+    pub many : length left ≡ length ps
+    pub fewer : k ≤ h .pages
+    pub whole : length table ≡ s * h .pages
+    pub short : s * h .pages ≤ 17408
+    pub stop : s * k ≤ s * h .pages
+    pub next : k < length left → s * k + s ≤ s * h .pages
+
+  pub sizes
+      : (s k : ℕ) (table : List ℕ)
+      → s ≡ pageSize (h .capacity)
+      → s ≤ 68
+      → length table ≡ pageSize (h .capacity) * h .pages
+      → k ≤ length left
+      → Sizes s k table
+  sizes s k table e l w u =
+      let few : k ≤ h .pages = omega (arith, as-many, enough) in
+      record {
+        many = as-many;
+        fewer = few;
+        whole = rw e w;
+        short = table-short s (h .pages) l (o .heads .limits .pages .1);
+        stop = place-end s k (h .pages) few;
+        next = λ v. place-next s k (h .pages) (omega (arith, as-many, enough));
       }
 
   -- page k is the one that the code makes of its depth and of the entry that it has come to
