@@ -7,3 +7,5 @@ pub mod Counting
 pub mod Refused
 -- records put among others
 pub mod Gather
+-- the directory and the page table, written front to back
+pub mod Table

@@ -7,7 +7,7 @@ use native.Mathlib.Omega.{arith}
 use native.Mathlib.Nat.{mul-le-mul-right}
 use native.Mathlib.Decide.{decLt}
 use lib.ListN.{length, getD, length-append}
-use lib.Pow.{pow-pos, pow-add, high}
+use lib.Pow.{pow-pos, pow-add, high, shl-shr}
 use borrow.Author.Tests.{lt-ltb, le-ltb, eq-eqb}
 use Rattle.spec.specs.declared.Rec.{Rec}
 use Rattle.spec.specs.Basics.{Each, end, next}
@@ -24,7 +24,7 @@ use Rattle.laws.specs.Tidy.Tiles.{tiles-some, tiles-one}
 use Rattle.laws.specs.Tidy.Twins.{Twins, apart as twins-apart}
 use Rattle.laws.specs.Tidy.Left.{is-pair, Left, own, pair, apart, pages-left}
 use Rattle.laws.specs.Tidy.Kept.{twins, left-tiles, left-each, Right, page-right, joined-right, left-right}
-use Rattle.laws.specs.Tidy.Entries.{pageOn, firstEntry, recordsFrom, gathered}
+use Rattle.laws.specs.Tidy.Entries.{pageOn, firstEntry, recordsFrom, gathered, pageFrom}
 use Rattle.laws.specs.Tidy.Starts.{twice}
 
 -- ---- the steps of the walk
@@ -119,6 +119,10 @@ leftFrom f m = firstEntry (f .g) (leftPage f m)
 
 abbrev pub leftTo : File → ℕ → ℕ
 leftTo f m = leftFrom f m + 2 ^ (f .g - leftPage f m .depth)
+
+-- a page is its parts
+from-parts : (q : Page) (p : ℕ) (rs : List Rec) → p ≡ q .pattern → rs ≡ q .records → record { depth = q .depth; pattern = p; records = rs } ≡ q
+from-parts q p rs e h = rw (e, h)
 
 module _ (f : File) (ok : FileOk f) where
   abbrev g : ℕ
@@ -293,3 +297,8 @@ module _ (f : File) (ok : FileOk f) where
       let q = leftPage f m in
       let e = past (q .pattern) (2 ^ (g - q .depth)) in
       rw (← e) (ends (each-at (pagesLeft f) m zeroPage l (by-itself (pages-left f ok))) x n a (rw e b))
+
+  -- THE PAGE LEFT, made of its depth and its first entry
+  pub left-page : (m : ℕ) → m < length (pagesLeft f) → pageFrom f (leftFrom f m) (leftPage f m .depth) ≡ leftPage f m
+  unfolding pageFrom firstEntry
+  left-page m l = from-parts (leftPage f m) _ _ (shl-shr (leftPage f m .pattern) (g - leftPage f m .depth)) (left-gathered m l)
