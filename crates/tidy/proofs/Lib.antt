@@ -9,3 +9,5 @@ pub mod Refused
 pub mod Gather
 -- the directory and the page table, written front to back
 pub mod Table
+-- the parts of the tidied file together
+pub mod Whole

@@ -2,7 +2,7 @@
 use mathlib.Core.Path.{_≡_, refl, sym, ap, _∙_}
 use mathlib.Core.List.{List, _++_, map}
 use Prim.Native.Nat.{ℕ, zero, suc, _+_, _-_, _*_, _^_, _≤_, _<_}
-use native.Mathlib.Nat.{add-sub-cancel-left, mul-le-mul, mul-le-mul-left}
+use native.Mathlib.Nat.{mul-le-mul, mul-le-mul-left}
 use native.Mathlib.Numerals.{add-one}
 use native.Mathlib.Omega.{arith}
 use lib.ListN.{length, getD, take, drop, replicate, length-append, length-map, length-replicate, replicate-append-replicate, List·getD-map}
@@ -13,17 +13,18 @@ use Rattle.spec.specs.Job.{pageSize}
 use Rattle.spec.specs.File.{Page, zeroPage}
 use Rattle.spec.specs.Encode.{pageBytes}
 use Rattle.spec.specs.Decode.{fileOf}
-use Rattle.spec.specs.Tidy.{pagesLeft}
+use Rattle.spec.specs.Tidy.{pagesLeft, ownersFrom}
 use Rattle.laws.specs.Tools.{each-imp}
 use Rattle.laws.specs.Codec.Tools.{every, each-map}
 use Rattle.laws.specs.Codec.Parts.{each-join, each-snoc, length-each}
 use Rattle.laws.specs.Codec.Sections.{length-page}
+use Rattle.laws.specs.Tidy.Tiles.{Tiles}
 use Rattle.laws.specs.Tidy.Left.{pages-left}
 use Rattle.laws.specs.Tidy.Kept.{left-tiles, left-right, left-few}
 use Rattle.laws.specs.Tidy.Depths.{depths-left}
 use Rattle.laws.specs.Tidy.Gathered.{left-page}
 use Rattle.laws.specs.Tidy.Entries.{startOf, spread, depthsLeft, pageFrom}
-use Rattle.laws.specs.Tidy.Starts.{start-next, start-le, spread-take, spread-take-length, spread-length, tiles-start, tiles-total}
+use Rattle.laws.specs.Tidy.Starts.{start-next, start-le, spread-take, spread-take-length, spread-length, tiles-start, tiles-total, spread-owners}
 use Rattle.wire.specs.Over.{over}
 use Rattle.wire.specs.OverLaws.{over-none, over-over, over-whole}
 use Rattle.wire.specs.Parts.{length-part, over-part}
@@ -37,7 +38,7 @@ length-two : (n : ℕ) → length (two n) ≡ 2
 unfolding two
 length-two n = refl
 
-length-twos : (xs : List ℕ) → length (each two xs) ≡ 2 * length xs
+pub length-twos : (xs : List ℕ) → length (each two xs) ≡ 2 * length xs
 length-twos xs = length-each two 2 xs (every length-two xs)
 
 -- ---- `put_entries`: i times the number x are written from entry j on
@@ -123,7 +124,7 @@ module _ {h : Header} {b : List ℕ} (o : Given h b) (left : List ℕ) (known : 
   depths : left ≡ map (λ (q : Page). q .depth) ps
   depths = known ∙ depths-left (fileOf b) (o .ok)
 
-  as-many : length left ≡ length ps
+  pub as-many : length left ≡ length ps
   as-many = ap length depths ∙ length-map ps (λ (q : Page). q .depth)
 
   depth-at : (k : ℕ) → getD left k 0 ≡ getD ps k zeroPage .depth
@@ -138,13 +139,23 @@ module _ {h : Header} {b : List ℕ} (o : Given h b) (left : List ℕ) (known : 
   pub small : Each (λ q. length (q .records) ≤ h .capacity) ps
   small = each-imp (λ q r. omega (arith, r .ok .room, capacity-is o)) (left-right (fileOf b) (o .ok))
 
-  -- they have the whole directory
-  pub fills : Fills (h .depth) left
-  fills =
+  -- they have the whole of a directory that is deep enough
+  tiles : Tiles 0 0 ps
+  tiles = left-tiles (pages-left (fileOf b) (o .ok))
+
+  pub fills : (d : ℕ) → Each (λ q. q .depth ≤ d) ps → Fills d left
+  fills d w =
       record {
-        deep = rw depths (each-map (λ (q : Page). q .depth) ps .1 shallow);
-        total = rw depths (rw length-map (tiles-total (h .depth) ps (left-tiles (pages-left (fileOf b) (o .ok))) shallow));
+        deep = rw depths (each-map (λ (q : Page). q .depth) ps .1 w);
+        total = rw depths (rw length-map (tiles-total d ps tiles w));
       }
+
+  pub own-fills : Fills (h .depth) left
+  own-fills = fills (h .depth) shallow
+
+  -- and it is the tidied file's
+  pub owners : (d : ℕ) → d ≤ 32 → Each (λ q. q .depth ≤ d) ps → spread d left 1 ≡ ownersFrom (2 ^ d) d ps 0
+  owners d l w = rw depths (spread-owners d ps l tiles w)
 
   -- where page k stands, pages having s bytes each
   pub record Sizes (s k : ℕ) (table : List ℕ) : Type 0 where
@@ -177,21 +188,24 @@ module _ {h : Header} {b : List ℕ} (o : Given h b) (left : List ℕ) (known : 
   pub page-here : (k j : ℕ) → k < length left → j ≡ startOf (h .depth) left k → pageFrom (fileOf b) j (getD left k 0) ≡ getD ps k zeroPage
   page-here k j l e =
       let l' : k < length ps = omega (arith, as-many) in
-      let at = tiles-start (h .depth) ps (left-tiles (pages-left (fileOf b) (o .ok))) shallow k l' in
+      let at = tiles-start (h .depth) ps tiles shallow k l' in
       rw (depth-at k, e, depths, at, ← depth-is o) (left-page (fileOf b) (o .ok) k l')
 
 -- ---- the first k pages are written
 
--- a part that was lent comes back
+-- a part that is lent, from a up to e: how long it is, and that it comes back
+pub part-size : (w : List ℕ) (a e m : ℕ) → a + m ≡ e → e ≤ length w → length (take (e - a) (drop a w)) ≡ m
+part-size w a e m q l =
+    let z : e - a ≡ m = omega arith in
+    rw z (length-part w a m (omega arith))
+
 pub part-back
-    : (w t : List ℕ) (at n : ℕ)
-    → length t ≡ length (take (at + n - at) (drop at w))
-    → at + n ≤ length w
-    → take at w ++ (t ++ drop (at + n - at) (drop at w)) ≡ over w at t
-part-back w t at n e f =
-    let z = add-sub-cancel-left at n in
-    let size : length t ≡ n = rw z at e ∙ length-part w at n f in
-    rw z (over-part w t at n size f)
+    : (w t : List ℕ) (a e : ℕ)
+    → length t ≡ length (take (e - a) (drop a w))
+    → a ≤ e
+    → e ≤ length w
+    → take a w ++ (t ++ drop (e - a) (drop a w)) ≡ over w a t
+part-back w t a e q l u = over-part w t a (e - a) (q ∙ length-part w a (e - a) (omega arith)) (omega arith)
 
 each-take : {A : Type 0} {P : A → Type 0} (k : ℕ) {xs : List A} → Each P xs → Each P (take k xs)
 each-take zero e = end

@@ -1,7 +1,6 @@
 -- `put_pages` meets its contract: the first k pages left are written, and then one more; at the end, zeros.
 use mathlib.Core.Path.{_≡_, refl, sym, ap, _∙_}
-use Prim.Native.Nat.{_-_, _*_, _^_, _≤_}
-use native.Mathlib.Nat.{add-sub-cancel-left}
+use Prim.Native.Nat.{_+_, _-_, _*_, _^_, _≤_}
 use native.Mathlib.Omega.{arith}
 use lib.ListN.{length, getD, take}
 use lib.Pow.{pow-mono}
@@ -15,9 +14,8 @@ use Rattle.laws.specs.Tidy.Entries.{startOf}
 use Rattle.laws.specs.Tidy.Starts.{start-zero}
 use Rattle.wire.specs.Over.{over}
 use Rattle.wire.specs.OverLaws.{length-over}
-use Rattle.wire.specs.Parts.{length-part}
 use Rattle.tidy.proofs.Known.{shifted}
-use Rattle.tidy.proofs.Table.{run-inside, start-more, small, fills, sizes, page-here, part-back, pages-none, pages-next, pages-all}
+use Rattle.tidy.proofs.Table.{run-inside, start-more, small, own-fills, sizes, page-here, part-size, part-back, pages-none, pages-next, pages-all}
 use Rattle.tidy.proofs.pages.put_pages.Statement.{statement}
 use Rattle.tidy.proofs.pages.put_pages.Tie as tie
 
@@ -52,7 +50,7 @@ cast-l c =
     let t = c .before .before .before .before .before .before .before in
     let l = c .before .before .loop in
     let ls = t .args .left .now in
-    let f = fills (t .pre .0) ls (t .pre .1) in
+    let f = own-fills (t .pre .0) ls (t .pre .1) in
     let taken = c .before .loop-test .taken in
     omega (arith, each-at ls (l .k) 0 taken (f .deep), t .pre .0 .heads .limits .depth)
 
@@ -100,13 +98,13 @@ put-page-requires c κs =
     let ls = t .args .left .now in
     let s = sizes (t .pre .0) ls (t .pre .1) (z .result) (l .k) (t .args .table .now) (z .ensures .0) (z .ensures .1) (t .pre .2) (l .inv .0) in
     let taken = c .before .before .loop-test .taken in
-    let f = fills (t .pre .0) ls (t .pre .1) in
+    let f = own-fills (t .pre .0) ls (t .pre .1) in
     let at = z .result * l .k in
     let here = page-here (t .pre .0) ls (t .pre .1) (l .k) (l .j) taken (l .inv .1) in (
       t .pre .0,
       each-at ls (l .k) 0 taken (f .deep),
       run-inside (t .args .h .depth) ls (l .k) (l .j) taken (l .inv .1) (f .total),
-      rw (add-sub-cancel-left at (z .result)) (length-part (l .table) at (z .result) (omega (arith, s .next taken)) ∙ z .ensures .0),
+      part-size (l .table) at (at + z .result) (z .result) (omega arith) (omega (arith, s .next taken)) ∙ z .ensures .0,
       rw here (each-at (pagesLeft (fileOf (t .args .file .now))) (l .k) zeroPage (omega arith) (small (t .pre .0) ls (t .pre .1))),
     )
 
@@ -115,7 +113,7 @@ sub-j c =
     let t = c .before .before .before .before .before .before .before .before .before .before .before .before in
     let l = c .before .before .before .before .before .before .before .loop in
     let ls = t .args .left .now in
-    let f = fills (t .pre .0) ls (t .pre .1) in
+    let f = own-fills (t .pre .0) ls (t .pre .1) in
     let taken = c .before .before .before .before .before .before .loop-test .taken in
     omega (arith, each-at ls (l .k) 0 taken (f .deep))
 
@@ -127,7 +125,7 @@ add-j c =
     let t = c .before .before .before .before .before .before .before .before .before .before .before .before in
     let l = c .before .before .before .before .before .before .before .loop in
     let ls = t .args .left .now in
-    let f = fills (t .pre .0) ls (t .pre .1) in
+    let f = own-fills (t .pre .0) ls (t .pre .1) in
     let taken = c .before .before .before .before .before .before .loop-test .taken in
     let g = t .args .h .depth in
     let deep = t .pre .0 .heads .limits .depth in
@@ -155,7 +153,7 @@ loop-again c =
     let w = shifted (g - getD ls (l .k) 0) (omega (arith, t .pre .0 .heads .limits .depth)) .0 in
     let here = page-here (t .pre .0) ls (t .pre .1) (l .k) (l .j) taken (l .inv .1) in
     let back =
-    part-back (l .table) (p .last .1 .1 .1 .1 .0) (z .result * l .k) (z .result) (p .kept .1 .1 .1 .1 .0) (omega (arith, s .next taken))
+    part-back (l .table) (p .last .1 .1 .1 .1 .0) (z .result * l .k) (z .result * l .k + z .result) (p .kept .1 .1 .1 .1 .0) (omega arith) (omega (arith, s .next taken))
     in (
       omega arith,
       rw w (start-more g ls (l .k) (l .j) taken (l .inv .1)),
