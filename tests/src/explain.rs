@@ -9,13 +9,22 @@ use crate::plain_list::{told, PlainList};
 use crate::result::Contents;
 
 /// Feeds the plain list in log order and gives back the list at the end, or
-/// says which line does not fit.
+/// says which line does not fit. "It starts as what the file held when it came
+/// in."
 pub fn explain(job: &Job, contents: &Contents) -> Result<PlainList, String> {
+    explain_from(PlainList::of(&job.file.holds())?, job, contents)
+}
+
+/// The same with a list that is there already: that of the jobs before this one.
+pub fn explain_from(
+    mut list: PlainList,
+    job: &Job,
+    contents: &Contents,
+) -> Result<PlainList, String> {
     if contents.answers.len() != job.operations.len() {
         return Err("an answer for each operation is wanted".into());
     }
     log_is_complete(contents)?;
-    let mut list = PlainList::of(&job.file.holds())?;
     for line in &contents.log {
         let operation = &job.operations[line.operation];
         let answer = &contents.answers[line.operation];

@@ -11,10 +11,13 @@
 //! - [`check`]: the refusal of a job by its bytes, every row but 11, or `None`;
 //! - [`run`]: the result bytes, or the refusal, by every row;
 //! - [`report`]: what `chargelog` prints;
+//! - [`tidy`]: the bytes of a tidied charge file, or the refusal;
 //! - [`page::Page`] and [`split`]: find, add, remove and split a page;
 //! - [`make`], [`damage`], [`damage_pages`], [`damage_records`] and [`seeds`]:
 //!   random jobs, damaged jobs, and seeds that can be repeated;
-//! - [`vectors`]: the stored jobs, with what is wanted of them;
+//! - [`make_thin`] and [`make_months`]: random files with thin pages, and jobs
+//!   that begin from the file that another has left;
+//! - [`vectors`]: the stored jobs and files, with what is wanted of them;
 //! - [`tally`]: how often each number of refusal was met;
 //! - [`explain`]: whether a log explains its answers by the plain list.
 
@@ -30,6 +33,8 @@ pub mod job;
 pub mod key;
 pub mod little_endian;
 pub mod make;
+pub mod make_months;
+pub mod make_thin;
 pub mod make_turns;
 pub mod page;
 pub mod plain_list;
@@ -41,9 +46,11 @@ pub mod seeds;
 pub mod shared;
 pub mod split;
 pub mod tally;
+pub mod tidy;
 pub mod turn;
 pub mod vectors;
 
 pub use check::check;
 pub use report::report;
 pub use run::{run, Outcome};
+pub use tidy::tidy;

@@ -83,7 +83,7 @@ pub fn empty_file(random: &mut Random) -> ChargeFile {
 
 /// Splits empty pages until so many are in use. A deep file always splits
 /// around one entry; a shallow one anywhere.
-fn grow(random: &mut Random, file: &mut ChargeFile, target: usize) {
+pub(crate) fn grow(random: &mut Random, file: &mut ChargeFile, target: usize) {
     let hot = random.below(file.directory.len());
     let deep = random.percent(40);
     while file.in_use < target {
@@ -113,7 +113,7 @@ fn grow(random: &mut Random, file: &mut ChargeFile, target: usize) {
 
 /// Gives the pages in use other numbers: nothing says that a page with bit 0
 /// stands before its other half.
-fn renumber(random: &mut Random, file: &mut ChargeFile) {
+pub(crate) fn renumber(random: &mut Random, file: &mut ChargeFile) {
     let mut numbers: Vec<usize> = (1..=file.in_use).collect();
     random.shuffle(&mut numbers);
     let old = file.pages.clone();
@@ -176,7 +176,7 @@ fn fill(random: &mut Random, file: &mut ChargeFile, calls: &[u32]) {
 }
 
 /// Stores a call in its page if it is not there and the page has room.
-fn store(random: &mut Random, file: &mut ChargeFile, call: u32) {
+pub(crate) fn store(random: &mut Random, file: &mut ChargeFile, call: u32) {
     let number = file.page_of(call);
     let full = file.page(number).records.len() == file.capacity;
     if !full && file.page(number).find(call).is_none() {
@@ -194,7 +194,8 @@ fn charge(random: &mut Random) -> u32 {
     }
 }
 
-fn operations(random: &mut Random, file: &ChargeFile, calls: &[u32]) -> Vec<Operation> {
+/// Random operations on a file, most of them on these calls.
+pub(crate) fn operations(random: &mut Random, file: &ChargeFile, calls: &[u32]) -> Vec<Operation> {
     let count = match random.below(16) {
         0 => random.below(2),
         1 => random.between(60, MAX_OPERATIONS),

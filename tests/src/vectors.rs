@@ -1,12 +1,17 @@
-//! The stored jobs of vectors/, each with what is lent and what is wanted of
+//! The stored cases of vectors/, each with what is lent and what is wanted of
 //! it. They came with the documents and were not made here.
 //!
-//! One case is all files of one name, and the suffix says what each is: `job`;
-//! `room`, what is lent, as text (without it, enough); `out`, the whole result,
-//! or in its place `refused`, number and place as text; `print`, what
-//! `chargelog` prints, which lends enough itself. Those in the folder `printed`
-//! came with the text alone; those in `earlier` came with an earlier request,
-//! whose number they have, and still hold.
+//! One case is all files of one name, and the suffix says what each is. There
+//! are two kinds, each in folders of its own: jobs to be run, and charge files
+//! to be tidied. Both have `room`, what is lent, as text (without it, enough),
+//! and `out`, the whole output, or in its place `refused`, number and place as
+//! text.
+//!
+//! - Of a job: `job`, and `print`, what `chargelog` prints, which lends enough
+//!   itself. Those in the folder `printed` came with the text alone; those in
+//!   `earlier` came with an earlier request, whose number they have, and still
+//!   hold.
+//! - Of a file to be tidied: `file`, and `depth`, the wanted depth as text.
 
 use std::collections::{BTreeMap, BTreeSet};
 use std::ffi::OsStr;
@@ -17,8 +22,18 @@ use std::path::{Path, PathBuf};
 use crate::check::WORKING_MEMORY;
 use crate::run::Outcome;
 
-/// How many there are: a test of no vectors would always pass.
-const STORED: usize = 455;
+/// How many jobs there are: a test of no vectors would always pass.
+const JOBS: usize = 455;
+
+/// How many files to be tidied.
+const TO_BE_TIDIED: usize = 157;
+
+/// The folder of the files to be tidied; every other one has jobs.
+const TIDY_FOLDER: &str = "12-tidy";
+
+/// The suffixes of a job, and of a file to be tidied.
+const JOB_SUFFIXES: [&str; 5] = ["job", "room", "out", "refused", "print"];
+const TIDY_SUFFIXES: [&str; 5] = ["file", "depth", "room", "out", "refused"];
 
 /// Enough for every job: bytes of the result buffer, rows, and bytes of other
 /// working memory.
@@ -49,6 +64,18 @@ impl Vector {
     }
 }
 
+/// One stored charge file to be tidied.
+pub struct ToBeTidied {
+    /// Its folder and name.
+    pub name: String,
+    pub file: Vec<u8>,
+    /// The wanted depth.
+    pub depth: u64,
+    /// What is lent: bytes of the output.
+    pub room: usize,
+    pub wanted: Outcome,
+}
+
 /// The folder of all vectors.
 pub fn folder() -> PathBuf {
     Path::new(env!("CARGO_MANIFEST_DIR")).join("vectors")
@@ -56,9 +83,32 @@ pub fn folder() -> PathBuf {
 
 /// All stored jobs, by name.
 pub fn all() -> Vec<Vector> {
-    let vectors: Vec<Vector> = suffixes().keys().map(|name| read(name)).collect();
-    assert!(vectors.len() >= STORED, "only {} vectors", vectors.len());
+    let names = suffixes().into_keys().filter(|name| !is_to_be_tidied(name));
+    let vectors: Vec<Vector> = names.map(|name| read(&name)).collect();
+    assert!(vectors.len() >= JOBS, "only {} vectors", vectors.len());
     vectors
+}
+
+/// All stored files to be tidied, by name.
+pub fn to_be_tidied() -> Vec<ToBeTidied> {
+    let names = suffixes().into_keys().filter(|name| is_to_be_tidied(name));
+    let vectors: Vec<ToBeTidied> = names.map(|name| read_to_be_tidied(&name)).collect();
+    assert!(vectors.len() >= TO_BE_TIDIED, "only {}", vectors.len());
+    vectors
+}
+
+/// Whether a case, by its folder and name, is a file to be tidied.
+fn is_to_be_tidied(name: &str) -> bool {
+    name.split('/').next() == Some(TIDY_FOLDER)
+}
+
+/// The suffixes that a case can have, by its folder and name.
+pub fn known_suffixes(name: &str) -> [&'static str; 5] {
+    if is_to_be_tidied(name) {
+        TIDY_SUFFIXES
+    } else {
+        JOB_SUFFIXES
+    }
 }
 
 /// The suffixes that each name has.
@@ -95,6 +145,21 @@ pub fn read(name: &str) -> Vector {
         }),
         wanted: wanted(name),
         print: bytes(name, "print").unwrap_or_else(|| panic!("no {name}.print")),
+    }
+}
+
+/// The stored file to be tidied of one name, its folder before it.
+fn read_to_be_tidied(name: &str) -> ToBeTidied {
+    let one_number = |suffix| match numbers(name, suffix)?[..] {
+        [number] => Some(number),
+        _ => panic!("{name}.{suffix} has one number"),
+    };
+    ToBeTidied {
+        name: name.to_string(),
+        file: bytes(name, "file").unwrap_or_else(|| panic!("no {name}.file")),
+        depth: one_number("depth").unwrap_or_else(|| panic!("no {name}.depth")) as u64,
+        room: one_number("room").unwrap_or(ENOUGH.0),
+        wanted: wanted(name).expect("no text stands for an outcome here"),
     }
 }
 

@@ -147,6 +147,10 @@ fn stored_refusals_agree_with_brute_force() {
         assert_eq!(first_fault(&vector.job), wanted, "{}", vector.name);
         tally.count(wanted.map_or(0, |(number, _)| number));
     }
+    for vector in vectors::to_be_tidied() {
+        let wanted = check(&vector.file);
+        assert_eq!(first_fault(&vector.file), wanted, "{}", vector.name);
+    }
     tally.all_met(NUMBERS.into_iter().chain([0]), 5);
 }
 

@@ -1,12 +1,15 @@
-//! Every stored job comes to what is stored beside it, to the byte, and prints its text. The jobs came with the documents and were not made here:
-//! `marked-` are the marked jobs and `full-` the largest; others are named by their fault, by their refusal, or by a number only.
+//! Every stored job comes to what is stored beside it, to the byte, and prints its text; every stored file is tidied to what is stored beside it. They
+//! came with the documents and were not made here: `marked-` are the marked jobs and `full-` the largest; others are named by their fault, by their
+//! refusal, or by a number only.
 
 use std::collections::BTreeMap;
 
-use chargefile_tests::vectors::{all, suffixes};
-use chargefile_tests::{report, run};
+use chargefile_tests::damage::NUMBERS;
+use chargefile_tests::tally::Tally;
+use chargefile_tests::vectors::{all, known_suffixes, suffixes, to_be_tidied};
+use chargefile_tests::{check, report, run, tidy, Outcome};
 
-/// No stored job is said to differ.
+/// No stored case is said to differ.
 fn none_differ(wrong: &[String]) {
     assert!(
         wrong.is_empty(),
@@ -45,12 +48,43 @@ fn every_vector_prints_its_text() {
     none_differ(&wrong);
 }
 
+#[test]
+fn every_vector_is_tidied_or_refused() {
+    let mut wrong = Vec::new();
+    for vector in to_be_tidied() {
+        let outcome = tidy(&vector.file, vector.depth, vector.room);
+        if outcome != vector.wanted {
+            let (name, wanted) = (vector.name, vector.wanted);
+            wrong.push(format!("{name}: {outcome:?}, wanted: {wanted:?}"));
+        }
+    }
+    none_differ(&wrong);
+}
+
+/// The file's own refusals come first, and are those of a job; after them no other is told than 18, 19 and 11.
+#[test]
+fn a_file_to_be_tidied_is_refused_as_a_job_first() {
+    let mut tally = Tally::default();
+    for vector in to_be_tidied() {
+        let told = match vector.wanted {
+            Outcome::Done { .. } => None,
+            Outcome::Refused { number, place } => Some((number, place)),
+        };
+        let own = told.filter(|(number, _)| NUMBERS.contains(number));
+        assert_eq!(check(&vector.file), own, "{}", vector.name);
+        let number = told.map_or(0, |(number, _)| number);
+        assert!(own.is_some() || [0, 18, 19, 11].contains(&number));
+        tally.count(number);
+    }
+    tally.all_met(NUMBERS.into_iter().chain([0, 18, 19, 11]), 1);
+}
+
 /// Each folder has as many as came, and no file that nothing reads.
 #[test]
 fn the_vectors_are_all_there() {
-    let known = ["job", "room", "out", "refused", "print"];
     let mut folders: BTreeMap<String, usize> = BTreeMap::new();
     for (name, suffixes) in suffixes() {
+        let known = known_suffixes(&name);
         let unknown = suffixes
             .iter()
             .find(|suffix| !known.contains(&suffix.as_str()));
@@ -62,6 +96,7 @@ fn the_vectors_are_all_there() {
         ("00-base", 176),
         ("01-page-faults", 61),
         ("10-rising", 45),
+        ("12-tidy", 157),
         ("earlier", 69),
         ("printed", 104),
     ];
