@@ -40,6 +40,16 @@ fn every_vector() {
     tally.all_met(NUMBERS.into_iter().chain([0]), 5);
 }
 
+/// A stored file to be tidied is checked as a job; what is stored is what tidying it tells.
+#[test]
+fn every_file_to_be_tidied() {
+    let mut tally = Tally::default();
+    for vector in vectors::to_be_tidied() {
+        tally.count(agree(&vector.file).map_or(0, |(number, _)| number));
+    }
+    tally.all_met(NUMBERS.into_iter().chain([0]), 1);
+}
+
 #[test]
 fn damaged_jobs() {
     let mut tally = Tally::default();

@@ -60,6 +60,13 @@ unsafe extern "C" {
         memory: *mut u8,
         memory_len: usize,
     ) -> CallOutcome;
+    fn chargefile_tidy(
+        file: *const u8,
+        file_len: usize,
+        depth: u64,
+        out: *mut u8,
+        out_len: usize,
+    ) -> CallOutcome;
 }
 
 /// What a run is lent, filled with a pattern beforehand.
@@ -114,18 +121,43 @@ pub fn run_only(job: &[u8], lent: &mut Lent) -> CallOutcome {
     }
 }
 
-/// What a run came to: the result's bytes, or number and place of the refusal, whole.
+/// What a call came to: the output's bytes, or number and place of the refusal, whole.
 pub type Told = Result<Vec<u8>, (u64, u64)>;
+
+/// The same, with the output, of a call that was lent this buffer.
+fn told(outcome: CallOutcome, buffer: &[u8]) -> Told {
+    if outcome.refusal == 0 {
+        assert_eq!(outcome.place, 0, "the place of a call that was done");
+        return Ok(buffer[..outcome.length as usize].to_vec());
+    }
+    assert_eq!(outcome.length, 0, "the length of a call that was refused");
+    Err((outcome.refusal, outcome.place))
+}
 
 /// Runs a job.
 pub fn run(job: &[u8], lent: &mut Lent) -> Told {
-    let told = run_only(job, lent);
-    if told.refusal == 0 {
-        assert_eq!(told.place, 0, "the place of a job that was run");
-        return Ok(lent.result[..told.length as usize].to_vec());
+    let outcome = run_only(job, lent);
+    told(outcome, &lent.result)
+}
+
+/// The tidying of a charge file.
+pub fn tidy_only(file: &[u8], depth: u64, out: &mut [u8]) -> CallOutcome {
+    // SAFETY: the contract of `chargefile_tidy` asks nothing of the two slices
+    unsafe {
+        chargefile_tidy(
+            file.as_ptr(),
+            file.len(),
+            depth,
+            out.as_mut_ptr(),
+            out.len(),
+        )
     }
-    assert_eq!(told.length, 0, "the length of a job that was refused");
-    Err((told.refusal, told.place))
+}
+
+/// Tidies a charge file.
+pub fn tidy(file: &[u8], depth: u64, out: &mut [u8]) -> Told {
+    let outcome = tidy_only(file, depth, out);
+    told(outcome, out)
 }
 
 /// What the library must tell where the tests' own implementation comes to this.
@@ -168,4 +200,55 @@ pub fn comes_to(job: &[u8], (result, rows, memory): (usize, usize, usize), wante
             );
         }
     }
+}
+
+/// Bytes that begin so many behind an address that is a multiple of 16, with others on both sides.
+struct Placed {
+    all: Vec<u8>,
+    first: usize,
+    length: usize,
+}
+
+impl Placed {
+    /// Bytes on both sides together: at least 16 on each, whatever the address.
+    const BESIDE: usize = 64;
+
+    /// So many bytes, all of one value as those on both sides.
+    fn filled(byte: u8, length: usize, behind: usize) -> Placed {
+        let all = vec![byte; length + Placed::BESIDE];
+        let first = 16 + all.as_ptr().align_offset(16) + behind;
+        assert!(first + 16 <= Placed::BESIDE, "bytes behind it");
+        Placed { all, first, length }
+    }
+
+    /// These bytes.
+    fn of(bytes: &[u8], behind: usize) -> Placed {
+        let mut placed = Placed::filled(0x3C, bytes.len(), behind);
+        placed.bytes().copy_from_slice(bytes);
+        placed
+    }
+
+    fn bytes(&mut self) -> &mut [u8] {
+        &mut self.all[self.first..][..self.length]
+    }
+}
+
+/// Tidies a charge file at a depth with an output of so many bytes lent. It comes to this; bytes of the output past the tidied file keep their values, as
+/// do all of them after a refusal, those beside the output, and the file's own. The file's bytes and the output begin so many behind a round address.
+pub fn tidies_to(file: &[u8], depth: u64, room: usize, behind: (usize, usize), wanted: &Outcome) {
+    let mut given = black_box(Placed::of(file, behind.0));
+    let mut out = Placed::filled(0xA5, room, behind.1);
+    let told = tidy(given.bytes(), depth, out.bytes());
+    assert!(
+        black_box(given).bytes() == file,
+        "the file's own bytes are written"
+    );
+    assert_eq!(told, self::wanted(wanted), "depth {depth}, room {room}");
+    if let Outcome::Done { result } = wanted {
+        out.bytes()[..result.len()].fill(0xA5);
+    }
+    assert!(
+        out.all.iter().all(|byte| *byte == 0xA5),
+        "a byte that is not the output's is written"
+    );
 }
