@@ -1,37 +1,42 @@
 /*
- * The charge file and its turns: the library's two calls, for C (C99 on) and C++.
+ * The charge file and its turns: the library's three calls, for C (C99 on) and C++.
  *
  * A job is a charge file (an extendible hash file of call numbers and charges), a list of
  * operations on it, and a list of turns that says which operation takes the next step.
  * chargefile_check tells whether the bytes of a job are sound; chargefile_run checks them, runs the
- * job turn by turn and writes its result. docs/FORMAT.md has every byte of a job and of a result.
+ * job turn by turn and writes its result. Between two runs, chargefile_tidy joins the thin pages of
+ * a charge file and writes it with the depth that is wanted. docs/FORMAT.md has every byte of a job
+ * and of a result, and what tidying does.
  *
  * Proved, for every input (crates/chargefile/specs/Called.antt, crates/run/specs/Call.antt):
  *
- *   - Any bytes may be handed over as a job. A call always ends, with a result or with one numbered
- *     refusal.
- *   - A refused job has written to no lent memory whatever: every lent byte and row is what it was.
- *     (Number and place of the refusal are returned by value.)
- *   - The job's own bytes are never written.
- *   - Refusal 0 is told exactly when no row of the refusal table holds; a check leaves row 11 out.
+ *   - Any bytes may be handed over as a job or as a charge file. A call always ends, with its
+ *     output or with one numbered refusal.
+ *   - A refused call has written to no lent memory whatever: every lent byte and row is what it
+ *     was. (Number and place of the refusal are returned by value.)
+ *   - The bytes of the job or of the charge file are never written.
+ *   - Refusal 0 is told exactly when no row of the refusal table that belongs to the call holds.
  *   - A job that meets no row of the refusal table is run. What then stands in the result buffer is
  *     explained by its own log: the answered operations done one at a time in the log's order, on a
  *     plain list of calls, get the same answers and leave the calls that the file then holds. Its
  *     charge file, where there is one, is that file, and is accepted as a job by itself.
+ *   - A charge file that meets no row is tidied. What is then written is accepted as a job by
+ *     itself, so that it can be run like any other. It holds the same calls with the same charges,
+ *     no two of its pages can be joined, and tidied again at the same depth it comes out the same.
  *
  * The caller's part, which no proof of the library can see to:
  *
  *   - Each pointer leads to as many bytes or rows as the length beside it says. The length of
  *     `rows` counts rows, not bytes. Where a length is 0 the pointer is not followed and may be
  *     NULL.
- *   - No two of the lent parts overlap, and nobody else writes to them during the call.
- *   - `rows` is aligned to 4 bytes, as the compiler aligns an array of this type. Job, result and
- *     working memory are bytes and need no alignment.
+ *   - No two of the parts handed over overlap, and nobody else writes to them during the call.
+ *   - `rows` is aligned to 4 bytes, as the compiler aligns an array of this type. All else is bytes
+ *     and needs no alignment.
  *
  * The library keeps nothing between calls, allocates nothing, reads no clock and takes no lock of
- * the system. Two threads may call it at once: they may share a job, and nothing else. It is built
- * for x86-64 with the System V calling convention. Of the C library it needs the functions that
- * fill and copy memory (memset and its like), and no other.
+ * the system. Two threads may call it at once: they may share what is only read, a job or a charge
+ * file, and nothing else. It is built for x86-64 with the System V calling convention. Of the C
+ * library it needs the functions that fill and copy memory (memset and its like), and no other.
  */
 #ifndef CHARGEFILE_H
 #define CHARGEFILE_H
@@ -118,7 +123,8 @@ extern "C" {
 #define CHARGEFILE_PAGE_SIZE(capacity)                                                             \
     (CHARGEFILE_PAGE_HEAD_SIZE + CHARGEFILE_RECORD_SIZE * (size_t)(capacity))
 
-/* A charge file: a job with no operations and no turns. */
+/* A charge file: a job with no operations and no turns. So long is a tidied one too, with the depth
+ * that was wanted, and the capacity and pages that it had. */
 #define CHARGEFILE_FILE_SIZE(depth, capacity, pages)                                               \
     (CHARGEFILE_HEADER_SIZE + ((size_t)CHARGEFILE_ENTRY_SIZE << (depth)) +                         \
      CHARGEFILE_PAGE_SIZE(capacity) * (size_t)(pages))
@@ -136,6 +142,7 @@ extern "C" {
      CHARGEFILE_FILE_SIZE(depth, capacity, pages))
 
 #define CHARGEFILE_JOB_MAX 53280u    /* the longest job, in bytes */
+#define CHARGEFILE_FILE_MAX 17952u   /* the longest charge file: room for every tidied one */
 #define CHARGEFILE_RESULT_MAX 21048u /* a result buffer that is enough for every job */
 #define CHARGEFILE_ROWS_MAX CHARGEFILE_OPERATIONS_MAX /* rows that are enough for every job */
 #define CHARGEFILE_MEMORY_SIZE 24576u /* working memory: this much, whatever the job */
@@ -169,8 +176,10 @@ static inline size_t chargefile_result_size(const uint8_t *job, size_t job_lengt
 /*
  * ---- Refusals. Rows are tried in the order of this table, which is not quite that of the numbers,
  * and within a row the lowest place is told. 12, 6 and 13 go page by page: all three are tried on
- * page 1, then all three on page 2, and so on; on a page that is not in use, 13 alone. Places count
- * bytes from the job's start, but for 1 and 11. docs/FORMAT.md finds the field of any place.
+ * page 1, then all three on page 2, and so on; on a page that is not in use, 13 alone. Rows 18 and
+ * 19 belong to chargefile_tidy alone, row 11 to the two calls that are lent something, and all
+ * others to every call. Places count bytes from the start of the job or of the charge file, but for
+ * 1, 19 and 11. docs/FORMAT.md finds the field of any place.
  *
  *   No.  When                                                        Place
  *    1   the job is under 32 bytes                                   its length
@@ -190,6 +199,9 @@ static inline size_t chargefile_result_size(const uint8_t *job, size_t job_lengt
  *    9   a kind is not 1 to 3, or a spare byte is not zero, or the   the operation
  *        charge of a search or a delete is not zero
  *   10   a turn names no operation of the job                        the turn
+ *   18   operations are present: a charge file has none              their count, 8
+ *   19   the wanted depth is above 8, or below the depth of a page   0
+ *        that is left after joining
  *   11   too little is lent, and nothing else is wrong               one of chargefile_small
  */
 enum chargefile_refusal {
@@ -206,14 +218,18 @@ enum chargefile_refusal {
     CHARGEFILE_REFUSED_TURN = 10,
     CHARGEFILE_REFUSED_OUTPUT = 11,
     CHARGEFILE_REFUSED_PATTERN = 12, /* the depth of a page, or its pattern */
-    CHARGEFILE_REFUSED_ZERO = 13     /* a byte that must be zero */
+    CHARGEFILE_REFUSED_ZERO = 13,    /* a byte that must be zero */
+    CHARGEFILE_REFUSED_PRESENT = 18, /* operations, where a charge file is wanted */
+    CHARGEFILE_REFUSED_DEPTH = 19    /* the wanted depth */
 };
 
-/* The places of refusal 11: what is too small. */
+/* The places of refusal 11: what is too small. The output is what a call writes, a result or a
+ * tidied file; each call says how many bytes it must be lent for it. */
 enum chargefile_small {
-    CHARGEFILE_SMALL_RESULT = 0, /* under chargefile_result_size bytes */
-    CHARGEFILE_SMALL_ROWS = 1,   /* fewer rows than the job has operations */
-    CHARGEFILE_SMALL_MEMORY = 2  /* under CHARGEFILE_MEMORY_SIZE bytes */
+    CHARGEFILE_SMALL_OUTPUT = 0,
+    CHARGEFILE_SMALL_RESULT = CHARGEFILE_SMALL_OUTPUT, /* the output of a run */
+    CHARGEFILE_SMALL_ROWS = 1,  /* fewer rows than the job has operations */
+    CHARGEFILE_SMALL_MEMORY = 2 /* under CHARGEFILE_MEMORY_SIZE bytes */
 };
 
 /* ---- Operations and their answers. */
@@ -296,6 +312,33 @@ chargefile_outcome chargefile_check(const uint8_t *job, size_t job_length);
 chargefile_outcome chargefile_run(const uint8_t *job, size_t job_length, uint8_t *result,
                                   size_t result_length, chargefile_row *rows, size_t rows_length,
                                   uint8_t *memory, size_t memory_length);
+
+/*
+ * Tidies the charge file of file_length bytes at `file`, and writes it to `out` with a directory of
+ * 2^depth entries.
+ *
+ * Two pages of equal local depth whose patterns differ only in the last bit are joined while
+ * together they hold at most c records, until no such pair is left. The pages left are numbered by
+ * their first entry. P stays as it is, and so do all calls with their charges.
+ *
+ * Tried in this order: all that chargefile_check tries; operations (refusal 18); the wanted depth
+ * (19); what is lent (11). The file's own depth is always taken, and so is each above it up to
+ * CHARGEFILE_DEPTH_MAX. A lower one is taken where no page left is deeper.
+ *
+ * Lent:
+ *   out      at least CHARGEFILE_FILE_SIZE(depth, c, P) bytes, c and P as in the file's header;
+ *            CHARGEFILE_FILE_MAX are enough for every file. It must not overlap `file`: no file is
+ *            tidied in place.
+ * More may be lent. What it holds beforehand does not matter. No working memory is needed.
+ *
+ * Refusal 0: the file was tidied. Then
+ *   - the tidied file stands at the start of `out`, and `length` is its length (its own field at
+ *     CHARGEFILE_AT_TOTAL says the same);
+ *   - the bytes of `out` past that length keep their values.
+ * Any other number: `out` is as it was.
+ */
+chargefile_outcome chargefile_tidy(const uint8_t *file, size_t file_length, uint64_t depth,
+                                   uint8_t *out, size_t out_length);
 
 #ifdef __cplusplus
 }
