@@ -14,6 +14,12 @@ chargefile_outcome cpp_run(const uint8_t *job, size_t job_length, uint8_t *resul
                           memory_length);
 }
 
+chargefile_outcome cpp_tidy(const uint8_t *file, size_t file_length, uint64_t depth, uint8_t *out,
+                            size_t out_length)
+{
+    return chargefile_tidy(file, file_length, depth, out, out_length);
+}
+
 size_t cpp_result_size(const uint8_t *job, size_t job_length)
 {
     return chargefile_result_size(job, job_length);

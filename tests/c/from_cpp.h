@@ -12,6 +12,8 @@ chargefile_outcome cpp_check(const uint8_t *job, size_t job_length);
 chargefile_outcome cpp_run(const uint8_t *job, size_t job_length, uint8_t *result,
                            size_t result_length, chargefile_row *rows, size_t rows_length,
                            uint8_t *memory, size_t memory_length);
+chargefile_outcome cpp_tidy(const uint8_t *file, size_t file_length, uint64_t depth, uint8_t *out,
+                            size_t out_length);
 size_t cpp_result_size(const uint8_t *job, size_t job_length);
 size_t cpp_row_size(void);
 size_t cpp_outcome_size(void);

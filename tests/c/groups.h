@@ -11,5 +11,7 @@ void output_tests(void);     /* row 11, and what is lent */
 void kept_tests(void);       /* a refused job has written nothing, whatever its refusal */
 void result_tests(void);     /* what a run writes */
 void rising_tests(void);     /* where a run puts a record, and where it finds one */
+void tidied_tests(void);     /* what tidying writes */
+void not_tidied_tests(void); /* what tidying refuses */
 
 #endif

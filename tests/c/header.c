@@ -59,6 +59,8 @@ static void largest_sizes(void)
 {
     EXPECT_EQUAL(CHARGEFILE_JOB_MAX, layout_of(LARGEST).total);
     EXPECT_EQUAL(CHARGEFILE_JOB_SIZE(8, 8, 256, 256, 16384), layout_of(LARGEST).total);
+    EXPECT_EQUAL(CHARGEFILE_FILE_MAX, layout_of(LARGEST).operations);
+    EXPECT_EQUAL(CHARGEFILE_FILE_SIZE(8, 8, 256), layout_of(LARGEST).operations);
     EXPECT_EQUAL(CHARGEFILE_RESULT_MAX, result_room(LARGEST));
     EXPECT_EQUAL(CHARGEFILE_RESULT_SIZE(8, 8, 256, 256), result_room(LARGEST));
     EXPECT_EQUAL(CHARGEFILE_ROWS_MAX, 256);
@@ -122,6 +124,17 @@ static void refusal_numbers(void)
     for (unsigned i = 0; i < sizeof numbers / sizeof numbers[0]; i++) {
         EXPECT_EQUAL(numbers[i], i);
     }
+    EXPECT_EQUAL(CHARGEFILE_REFUSED_PRESENT, 18);
+    EXPECT_EQUAL(CHARGEFILE_REFUSED_DEPTH, 19);
+}
+
+/* "11 ... place 0, 1 or 2"; of every output place 0. */
+static void places_of_11(void)
+{
+    EXPECT_EQUAL(CHARGEFILE_SMALL_OUTPUT, 0);
+    EXPECT_EQUAL(CHARGEFILE_SMALL_RESULT, 0);
+    EXPECT_EQUAL(CHARGEFILE_SMALL_ROWS, 1);
+    EXPECT_EQUAL(CHARGEFILE_SMALL_MEMORY, 2);
 }
 
 /* "Page, 4 + 8c bytes: l (1), record count (1), pattern (2), then records" */
@@ -168,11 +181,12 @@ void header_tests(void)
     test("header: an outcome has 24 bytes, its fields as the library has them", outcome_layout);
     test("header: the versions", versions);
     test("header: the limits", limits);
-    test("header: the largest job, result and table", largest_sizes);
+    test("header: the largest job, file, result and table", largest_sizes);
     test("header: sizes of files, jobs and results", sizes);
     test("header: the result buffer of a job", result_size_of_a_job);
     test("header: codes and kinds", codes_and_kinds);
     test("header: refusal numbers", refusal_numbers);
+    test("header: the places of refusal 11", places_of_11);
     test("header: where the fields of a page stand", page_fields);
     test("header: numbers of 2 and 4 bytes", numbers_are_little_endian);
     test("header: the library called from C++", called_from_cpp);

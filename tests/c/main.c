@@ -13,5 +13,7 @@ int main(void)
     kept_tests();
     result_tests();
     rising_tests();
+    tidied_tests();
+    not_tidied_tests();
     return all_counted();
 }
