@@ -60,6 +60,27 @@ impl Header {
     pub fn total(&self) -> usize {
         self.turns_at() + TURN_LENGTH * self.turns
     }
+
+    /// The header's bytes.
+    #[inline(always)]
+    pub fn write(&self, out: &mut [u8]) {
+        let head: &mut [u8; HEADER_LENGTH] = out.first_chunk_mut().unwrap();
+        let counts = [self.pages, self.in_use, self.operations, self.turns];
+        head[..4].copy_from_slice(&[1, 0, self.depth as u8, self.capacity as u8]);
+        for (k, count) in counts.into_iter().enumerate() {
+            head[4 + 2 * k..][..2].copy_from_slice(&(count as u16).to_le_bytes());
+        }
+        let offsets = [
+            HEADER_LENGTH,
+            self.table_at(),
+            self.operations_at(),
+            self.turns_at(),
+            self.total(),
+        ];
+        for (k, offset) in offsets.into_iter().enumerate() {
+            head[12 + 4 * k..][..4].copy_from_slice(&(offset as u32).to_le_bytes());
+        }
+    }
 }
 
 /// Calls a function with the page length for its constant, so that the loops over a page's records are unrolled.

@@ -1,11 +1,13 @@
-//! The check and the run of a job in safe Rust, tuned for time: what the library's time is held against. For measuring, not for use.
+//! The check and the run of a job, and the tidying of a charge file, in safe Rust, tuned for time: what the library's time is held against. For
+//! measuring, not for use.
 //!
 //! What makes it fast:
 //!
 //! - a check of one pass that says only yes or no (`check`); where it says no, the refusal is looked for row by row (`exact`);
 //! - every table of a run is a view of the lent memory with a fixed size and byte-wide numbers, so that few indices are tested
 //!   (`tables`), and the length of a page is a constant of the compiled code (`header::by_length`);
-//! - a turn that waits, or that is of a finished operation, is one test (`tables::FREE`).
+//! - a turn that waits, or that is of a finished operation, is one test (`tables::FREE`);
+//! - which pages are left after joining is read off counts, and each is written once (`tidy`).
 //!
 //! A mask on an index or a shift, as in `count & 15`, changes nothing: it spares a test that the compiler would put in.
 #![forbid(unsafe_code)]
@@ -25,10 +27,12 @@ mod run;
 mod search;
 mod split;
 mod tables;
+mod tidy;
 
 pub use check::check;
 pub use operation::Row;
 pub use run::run;
+pub use tidy::tidy;
 
-/// What a refused job gets: number and place.
+/// What a refused call gets: number and place.
 pub type Refusal = (u32, usize);

@@ -1,0 +1,156 @@
+//! The tidying of the tuned rival (tests/rival): what it writes and what it refuses, on files made by hand.
+
+use chargefile_tests::file::ChargeFile;
+use chargefile_tests::job::{Job, Kind, Operation};
+use chargefile_tests::key::call_with;
+use chargefile_tests::page::{Page, Record};
+use chargefile_tests::{check, Outcome};
+
+/// Enough for every charge file, and more.
+const ENOUGH: usize = 20_000;
+
+/// What the rival's tidying comes to in a buffer of so many bytes: of these a refusal has written none, and those past the length keep their values.
+fn tidied(file: &[u8], depth: u64, room: usize) -> Outcome {
+    let mut out = vec![0xA5; room];
+    let told = rival::tidy(file, depth, &mut out);
+    let kept = out.split_off(told.unwrap_or(0));
+    assert!(kept.iter().all(|byte| *byte == 0xA5), "bytes past the end");
+    match told {
+        Ok(_) => Outcome::Done { result: out },
+        Err((number, place)) => Outcome::Refused {
+            number,
+            place: place as u32,
+        },
+    }
+}
+
+/// A page in words: local depth, pattern, calls.
+type Told<'a> = (u32, u32, &'a [u32]);
+
+/// A charge file with these pages in use; every call has itself for its charge.
+fn file_of(depth: u32, capacity: usize, pages: usize, told: &[Told]) -> Vec<u8> {
+    let mut file = ChargeFile::empty(depth, capacity, pages);
+    file.in_use = told.len();
+    for (x, (local, pattern, calls)) in told.iter().enumerate() {
+        let record = |call: &u32| Record {
+            call: *call,
+            charge: *call,
+        };
+        file.pages[x] = Page {
+            depth: *local,
+            pattern: *pattern,
+            records: calls.iter().map(record).collect(),
+        };
+        for j in 0..1 << depth {
+            if file.pages[x].owns(j, depth) {
+                file.directory[j] = x + 1;
+            }
+        }
+    }
+    Job::charge_file(&file)
+}
+
+/// Lent just enough it comes to this; with a byte less it is refused; and what it comes to is tidied already.
+fn comes_to(file: &[u8], depth: u64, wanted: Vec<u8>) {
+    let room = wanted.len();
+    let refused = Outcome::Refused {
+        number: 11,
+        place: 0,
+    };
+    assert_eq!(check(&wanted), None);
+    let done = Outcome::Done { result: wanted };
+    assert_eq!(tidied(file, depth, room), done);
+    assert_eq!(tidied(file, depth, ENOUGH), done);
+    assert_eq!(tidied(file, depth, room - 1), refused);
+    let Outcome::Done { result: wanted } = &done else {
+        unreachable!()
+    };
+    assert_eq!(tidied(wanted, depth, room), done);
+}
+
+#[test]
+fn tidied_by_hand() {
+    let thin: [Told; 4] = [(2, 3, &[3]), (2, 1, &[2]), (2, 2, &[1, 5]), (2, 0, &[4])];
+    let joined = [1, 2, 3, 4, 5];
+    let file = file_of(2, 5, 6, &thin);
+    comes_to(&file, 2, file_of(2, 5, 6, &[(0, 0, &joined)]));
+    comes_to(&file, 0, file_of(0, 5, 6, &[(0, 0, &joined)]));
+    let left: [Told; 2] = [(1, 0, &[2, 4]), (1, 1, &[1, 3, 5])];
+    comes_to(&file_of(2, 4, 4, &thin), 1, file_of(1, 4, 4, &left));
+    let left: [Told; 3] = [(1, 0, &[2, 4]), (2, 2, &[1, 5]), (2, 3, &[3])];
+    comes_to(&file_of(2, 2, 4, &thin), 8, file_of(8, 2, 4, &left));
+    let uneven: [Told; 3] = [(2, 2, &[1]), (1, 0, &[2]), (2, 3, &[3, 7])];
+    let left: [Told; 3] = [(1, 0, &[2]), (2, 2, &[1]), (2, 3, &[3, 7])];
+    comes_to(&file_of(3, 2, 3, &uneven), 2, file_of(2, 2, 3, &left));
+    let all = [2, 4, 6, 8, 10, 12, 14, 16];
+    let first_full: [Told; 2] = [(1, 0, &all), (1, 1, &[])];
+    comes_to(
+        &file_of(1, 8, 2, &first_full),
+        1,
+        file_of(1, 8, 2, &[(0, 0, &all)]),
+    );
+}
+
+/// 256 pages with so many records each, the last pattern first.
+fn large(records: u32) -> Vec<u8> {
+    let calls = |p: u32| -> Vec<u32> { (0..records).map(|r| call_with(p, 8, r)).collect() };
+    let pages: Vec<(u32, Vec<u32>)> = (0..256).rev().map(|p| (p, calls(p))).collect();
+    let told: Vec<Told> = pages.iter().map(|(p, calls)| (8, *p, &calls[..])).collect();
+    file_of(8, 8, 256, &told)
+}
+
+/// At most 8 in a page: none, one, two, four records in each of 256 pages come to 1, 32, 64, 128 pages, and five to as many as there were.
+#[test]
+fn tidied_at_the_limits() {
+    for (records, depth) in [(0, 0), (1, 5), (2, 6), (4, 7), (5, 8), (8, 8)] {
+        let file = large(records);
+        let per_page = 1 << (8 - depth);
+        let calls = |p: u32| {
+            let parts = (0..per_page).flat_map(|q| (0..records).map(move |r| (q, r)));
+            let mut calls: Vec<u32> = parts
+                .map(|(q, r)| call_with(p * per_page + q, 8, r))
+                .collect();
+            calls.sort();
+            calls
+        };
+        let pages: Vec<Vec<u32>> = (0..1 << depth).map(calls).collect();
+        let told = (0..).zip(&pages).map(|(p, calls)| (depth, p, &calls[..]));
+        let told: Vec<Told> = told.collect();
+        for wanted in depth..=8 {
+            comes_to(&file, wanted.into(), file_of(wanted, 8, 256, &told));
+        }
+        let refused = Outcome::Refused {
+            number: 19,
+            place: 0,
+        };
+        for wanted in (0..depth.into()).chain([9, 256, 1 << 32, u64::MAX]) {
+            assert_eq!(tidied(&file, wanted, ENOUGH), refused);
+        }
+    }
+}
+
+/// The job's own refusal, then 18, then 19, then 11.
+#[test]
+fn tidying_refused() {
+    let refused = |number, place| Outcome::Refused { number, place };
+    let search = Operation {
+        kind: Kind::Search,
+        call: 1,
+        charge: 0,
+    };
+    let mut job = Job {
+        file: ChargeFile::empty(1, 2, 2),
+        operations: vec![search],
+        turns: vec![0],
+    }
+    .to_bytes();
+    assert_eq!(tidied(&job, 9, 0), refused(18, 8));
+    let last = job.len() - 2;
+    job[last] = 1;
+    assert_eq!(tidied(&job, 9, 0), refused(10, last as u32));
+    assert_eq!(tidied(&[], 9, 0), refused(1, 0));
+    let file = file_of(1, 1, 2, &[(1, 0, &[2]), (1, 1, &[3])]);
+    assert_eq!(tidied(&file, 9, 0), refused(19, 0));
+    assert_eq!(tidied(&file, 0, 0), refused(19, 0));
+    assert_eq!(tidied(&file, 1, 0), refused(11, 0));
+}
