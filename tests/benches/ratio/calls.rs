@@ -1,4 +1,4 @@
-//! The calls that are timed: check and run, of the library and of the rival.
+//! The calls that are timed: check, run and tidying, of the library and of the rival.
 
 use std::hint::black_box;
 use std::time::Instant;
@@ -21,10 +21,12 @@ pub enum Program {
 pub enum Call {
     Check,
     Run,
+    /// At this depth.
+    Tidy(u64),
 }
 
 /// What both are lent, enough for every job. Each has its own: neither finds in the cache what the other has written. Nothing is cleared between
-/// runs, since a run leaves memory and rows zero by itself.
+/// runs, since a run leaves memory and rows zero by itself. A tidied file goes to the result buffer, which is longer than any.
 pub struct Lent {
     library: linked::Lent,
     result: Vec<u8>,
@@ -42,13 +44,29 @@ impl Lent {
         }
     }
 
-    /// Asserts that both accept the job and come to the same bytes.
-    pub fn agree(&mut self, job: &[u8]) {
+    /// Asserts that both accept the job, or tidy the charge file, and come to the same bytes.
+    pub fn agree(&mut self, call: Call, job: &[u8]) {
+        match call {
+            Call::Check | Call::Run => self.agree_run(job),
+            Call::Tidy(depth) => self.agree_tidy(job, depth),
+        }
+    }
+
+    fn agree_run(&mut self, job: &[u8]) {
         assert_eq!(linked::check(job), None);
         assert_eq!(rival_check(job), Ok(()));
         let result = linked::run(job, &mut self.library).expect("accepted, and enough is lent");
         assert_eq!(self.rival_run(job), Ok(result.len()));
         assert!(self.result[..result.len()] == result, "they differ");
+    }
+
+    fn agree_tidy(&mut self, file: &[u8], depth: u64) {
+        let told = linked::tidy_only(file, depth, &mut self.library.result);
+        assert_eq!(told.refusal, 0, "it is tidied");
+        let length = told.length as usize;
+        assert_eq!(self.rival_tidy(file, depth), Ok(length));
+        let same = self.result[..length] == self.library.result[..length];
+        assert!(same, "they differ");
     }
 
     /// What one of so many calls in a row takes, in nanoseconds.
@@ -66,6 +84,13 @@ impl Lent {
             (Program::Rival, Call::Run) => nanoseconds(times, || {
                 black_box(self.rival_run(black_box(job))).ok();
             }),
+            (Program::Library, Call::Tidy(depth)) => nanoseconds(times, || {
+                let out = &mut self.library.result;
+                black_box(linked::tidy_only(black_box(job), depth, out));
+            }),
+            (Program::Rival, Call::Tidy(depth)) => nanoseconds(times, || {
+                black_box(self.rival_tidy(black_box(job), depth)).ok();
+            }),
         }
     }
 
@@ -73,6 +98,11 @@ impl Lent {
     #[inline(never)]
     fn rival_run(&mut self, job: &[u8]) -> Result<usize, rival::Refusal> {
         rival::run(job, &mut self.result, &mut self.rows, &mut self.memory)
+    }
+
+    #[inline(never)]
+    fn rival_tidy(&mut self, file: &[u8], depth: u64) -> Result<usize, rival::Refusal> {
+        rival::tidy(file, depth, &mut self.result)
     }
 }
 

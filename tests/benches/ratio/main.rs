@@ -10,6 +10,7 @@ mod jobs;
 mod linked;
 mod measure;
 mod table;
+mod tidying;
 mod turns;
 mod whole;
 
@@ -18,4 +19,5 @@ fn main() {
     turns::print();
     depths::print();
     bytes::print();
+    tidying::print();
 }

@@ -108,7 +108,7 @@ struct Best<'a> {
 impl Best<'_> {
     /// Asserts that library and rival come to the same, and finds out how many calls make a measurement.
     fn new<'a>(lent: &mut Lent, call: Call, job: &'a [u8]) -> Best<'a> {
-        lent.agree(job);
+        lent.agree(call, job);
         let slow = lent.time(Program::Library, call, job, 1);
         Best {
             call,
