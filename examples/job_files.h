@@ -5,6 +5,8 @@
 #include <inttypes.h>
 #include <stdbool.h>
 #include <stdio.h>
+#include <stdlib.h>
+#include <string.h>
 
 #include "chargefile.h"
 
@@ -40,17 +42,34 @@ static inline void put_number(uint8_t *at, unsigned size, uint32_t number)
     }
 }
 
-/* Whether a job was accepted; if not, says number, place and word (docs/FORMAT.md, "Refusals"). */
+/* False where the word is no number of 32 bits, or there is no word. */
+static inline bool number_of(const char *word, uint32_t *number)
+{
+    bool digits = word != NULL && *word != '\0' && strspn(word, "0123456789") == strlen(word);
+    uint64_t value = digits ? strtoull(word, NULL, 10) : UINT64_MAX;
+    *number = (uint32_t)value;
+    return value <= UINT32_MAX;
+}
+
+/* Whether a call was not refused; if it was, says number, place and word (docs/FORMAT.md,
+ * "Refusals"). No call tells a number that has no word here. */
 static inline bool was_accepted(const char *program, chargefile_outcome told)
 {
-    static const char *const words[] = {"short",  "version", "limit",  "offset",    "entry",
-                                        "page",   "owner",   "record", "operation", "turn",
-                                        "output", "pattern", "zero"};
+    static const char *const words[] = {
+        [CHARGEFILE_REFUSED_SHORT] = "short",         [CHARGEFILE_REFUSED_VERSION] = "version",
+        [CHARGEFILE_REFUSED_LIMIT] = "limit",         [CHARGEFILE_REFUSED_OFFSET] = "offset",
+        [CHARGEFILE_REFUSED_ENTRY] = "entry",         [CHARGEFILE_REFUSED_PAGE] = "page",
+        [CHARGEFILE_REFUSED_OWNER] = "owner",         [CHARGEFILE_REFUSED_RECORD] = "record",
+        [CHARGEFILE_REFUSED_OPERATION] = "operation", [CHARGEFILE_REFUSED_TURN] = "turn",
+        [CHARGEFILE_REFUSED_OUTPUT] = "output",       [CHARGEFILE_REFUSED_PATTERN] = "pattern",
+        [CHARGEFILE_REFUSED_ZERO] = "zero",           [CHARGEFILE_REFUSED_PRESENT] = "present",
+        [CHARGEFILE_REFUSED_DEPTH] = "depth",
+    };
     if (told.refusal == CHARGEFILE_ACCEPTED) {
         return true;
     }
     fprintf(stderr, "%s: refused %" PRIu64 " %" PRIu64 ": %s\n", program, told.refusal, told.place,
-            words[told.refusal - 1]);
+            words[told.refusal]);
     return false;
 }
 

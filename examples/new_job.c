@@ -14,9 +14,6 @@
  * Exit status 0, and the job on standard output. Exit status 1, the reason on standard error and
  * nothing on standard output, where the charge file is refused or a line is wrong.
  */
-#include <stdlib.h>
-#include <string.h>
-
 #include "job_files.h"
 
 static const char NAME[] = "new_job";
@@ -32,15 +29,6 @@ static void append(unsigned size, uint32_t number)
 {
     put_number(job + length, size, number);
     length += size;
-}
-
-/* False where the word is no number of 32 bits, or there is no word. */
-static bool number_of(const char *word, uint32_t *number)
-{
-    bool digits = word != NULL && strspn(word, "0123456789") == strlen(word);
-    uint64_t value = digits ? strtoull(word, NULL, 10) : UINT64_MAX;
-    *number = (uint32_t)value;
-    return value <= UINT32_MAX;
 }
 
 /* This and the next two give NULL, or what is wrong with the line. */

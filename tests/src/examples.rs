@@ -5,7 +5,7 @@ use crate::file::ChargeFile;
 use crate::job::{
     Job, Kind, Operation, MAX_CAPACITY, MAX_DEPTH, MAX_OPERATIONS, MAX_PAGES, MAX_TURNS,
 };
-use crate::page::{Page, Record};
+use crate::page::Record;
 
 /// A job with its name: examples/NAME.job has its bytes.
 pub struct Example {
@@ -39,6 +39,8 @@ pub fn examples() -> Vec<Example> {
         example("school", school()),
         example("stale", stale()),
         example("late", late()),
+        example("thin", thin()),
+        example("tidied", tidied()),
         example("misfiled", misfiled()),
         example("exchanged", exchanged()),
         example("wide", wide()),
@@ -174,6 +176,36 @@ fn late() -> Job {
     }
 }
 
+/// The end of term: of fifteen calls in five full pages eight are struck out.
+/// Pages are numbered as splits made them: 2, 3 and 4 from page 1, then 5 from 2.
+fn thin() -> Job {
+    let mut calls: Vec<(u32, u32)> = (4..26).map(|call| (call, 5 * call)).collect();
+    calls.retain(|(call, _)| ![5, 7, 10, 13, 18, 21, 23].contains(call));
+    let pages = [(3, 0b000), (2, 0b10), (2, 0b01), (3, 0b001), (2, 0b11)];
+    Job {
+        file: filled(parted_file(3, 3, 5, &pages), &calls),
+        operations: [4, 6, 8, 15, 19, 20, 22, 24].map(delete).to_vec(),
+        // Two of them for each page: the second waits until the first is done.
+        turns: rounds(&[0, 1, 2, 3, 4, 5, 6, 7], 10),
+    }
+}
+
+/// The month after: the file that `thin` leaves, tidied at depth 4, and what
+/// examples/tidied.ops says. Pages 1, 4 and 3 have come to one; pages 2 and 5
+/// have not, and 5 is 3 now. `.ci/months` holds the job that is made of the two
+/// to this one.
+fn tidied() -> Job {
+    let calls = [9, 11, 12, 14, 16, 17, 25].map(|call| (call, 5 * call));
+    Job {
+        file: filled(
+            parted_file(4, 3, 5, &[(1, 0b0), (2, 0b10), (2, 0b11)]),
+            &calls,
+        ),
+        operations: vec![insert(13, 80), insert(33, 70), search(14)],
+        turns: [vec![0; 10], vec![1; 9], vec![2; 2]].concat(),
+    }
+}
+
 /// Call 6 stands in page 2, which takes the odd calls.
 fn misfiled() -> Job {
     let mut file = filled(even_file(1, 3, 2, 1), &[(2, 50), (4, 90), (1, 30)]);
@@ -251,17 +283,20 @@ fn month() -> Job {
 /// A file whose pages in use are all of one local depth: page 1 has pattern 0,
 /// page 2 pattern 1, and so on.
 fn even_file(depth: u32, capacity: usize, page_count: usize, local: u32) -> ChargeFile {
+    let pages: Vec<(u32, u32)> = (0..1 << local).map(|pattern| (local, pattern)).collect();
+    parted_file(depth, capacity, page_count, &pages)
+}
+
+/// A file with these local depths and patterns: page 1 has the first, and so on.
+fn parted_file(depth: u32, capacity: usize, page_count: usize, pages: &[(u32, u32)]) -> ChargeFile {
     let mut file = ChargeFile::empty(depth, capacity, page_count);
-    file.in_use = 1 << local;
-    file.directory = (0..1 << depth)
-        .map(|j| 1 + (j >> (depth - local)))
-        .collect();
-    for pattern in 0..1 << local {
-        file.pages[pattern] = Page {
-            depth: local,
-            pattern: pattern as u32,
-            records: vec![],
-        };
+    file.in_use = pages.len();
+    for (x, &(local, pattern)) in pages.iter().enumerate() {
+        file.pages[x].depth = local;
+        file.pages[x].pattern = pattern;
+        for j in (0..1 << depth).filter(|j| j >> (depth - local) == pattern) {
+            file.directory[j as usize] = x + 1;
+        }
     }
     file
 }

@@ -7,18 +7,21 @@ use std::path::{Path, PathBuf};
 use chargefile_tests::answer::{Code, Line};
 use chargefile_tests::examples::{examples, Example};
 use chargefile_tests::job::{Counts, Job};
+use chargefile_tests::page::Record;
 use chargefile_tests::run::Run;
 use chargefile_tests::vectors;
 use chargefile_tests::{check, report};
 
 /// The files of the folder that no program writes.
-const BY_HAND: [&str; 6] = [
+const BY_HAND: [&str; 8] = [
     "README.md",
     "april.ops",
     "job_files.h",
     "new_job.c",
     "next_month.c",
     "put_in_order.c",
+    "tidied.ops",
+    "tidy.c",
 ];
 
 fn folder() -> PathBuf {
@@ -150,6 +153,43 @@ fn stale_searches_have_the_moment_of_the_change() {
         );
         assert!(moment < deleted && deleted < turns[1]);
     }
+}
+
+#[test]
+fn thin_leaves_pages_that_can_be_joined() {
+    let run = dealt(&example("thin"));
+    assert_eq!(codes(&run), [Code::Deleted; 8]);
+    assert_eq!(run.unfinished().count(), 0);
+    let file = &run.shared.file;
+    assert_eq!((file.in_use, file.pages.len()), (5, 5), "no page is left");
+    let calls: Vec<Vec<u32>> = file.pages.iter().map(|page| page.calls()).collect();
+    assert_eq!(
+        calls,
+        [vec![16], vec![9, 17, 25], vec![14], vec![12], vec![11]]
+    );
+}
+
+#[test]
+fn tidied_has_the_calls_that_thin_leaves_and_room_for_more() {
+    let (thin, tidied) = (dealt(&example("thin")), example("tidied"));
+    let sorted = |mut held: Vec<Record>| {
+        held.sort();
+        held
+    };
+    assert_eq!(
+        sorted(thin.shared.file.holds()),
+        sorted(tidied.file.holds())
+    );
+    assert_eq!(check(&tidied.to_bytes()), None);
+    let told = [Code::Stored, Code::Stored, Code::Found];
+    assert_eq!(codes(&dealt(&tidied)), told);
+    assert_eq!(dealt(&tidied).unfinished().count(), 0);
+    let not_tidied = Job {
+        file: thin.shared.file,
+        ..tidied
+    };
+    let told = [Code::NoPage, Code::NoDepth, Code::Found];
+    assert_eq!(codes(&dealt(&not_tidied)), told);
 }
 
 #[test]
