@@ -8,7 +8,7 @@ use std::str::Chars;
 use chargefile_tests::check::{result_room, WORKING_MEMORY};
 use chargefile_tests::damage::NUMBERS;
 use chargefile_tests::examples::{examples, Example};
-use chargefile_tests::{report, run, Outcome};
+use chargefile_tests::{check, report, run, Outcome};
 
 fn document() -> String {
     let path = Path::new(env!("CARGO_MANIFEST_DIR")).join("../docs/FORMAT.md");
@@ -78,6 +78,36 @@ fn changed(words: &str) -> Vec<u8> {
     let bytes = hex(bytes.trim_matches('`'));
     job[place..][..bytes.len()].copy_from_slice(&bytes);
     job
+}
+
+#[test]
+fn the_dumps_of_a_tidied_file() {
+    let text = document();
+    let before = dump(&text, "### A charge file with thin pages");
+    let after = dump(&text, "### The same file, tidied at depth 1");
+    let mut out = vec![0; 200];
+    assert_eq!(check(&before), None);
+    assert_eq!(rival::tidy(&before, 1, &mut out), Ok(after.len()));
+    assert_eq!(out[..after.len()], after);
+}
+
+#[test]
+fn the_worked_refusals_of_tidying() {
+    let text = document();
+    let file = dump(&text, "### A charge file with thin pages");
+    let lines = section(&text, "### Worked refusals of that file");
+    let rows: Vec<&&str> = lines.iter().filter(|line| line.starts_with('|')).collect();
+    for line in &rows[2..] {
+        let cells: Vec<&str> = line.split('|').map(str::trim).collect();
+        let mut out = vec![0; cells[2].parse().expect("a length")];
+        let told = rival::tidy(&file, cells[1].parse().expect("a depth"), &mut out);
+        let ((number, place), length) = match told {
+            Ok(length) => ((0, 0), length),
+            Err(refusal) => (refusal, 0),
+        };
+        assert_eq!(cells[3], format!("{number} {place}, length {length}"));
+    }
+    assert_eq!(rows.len(), 2 + 8, "all lines");
 }
 
 #[test]
