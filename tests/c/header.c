@@ -128,7 +128,7 @@ static void refusal_numbers(void)
     EXPECT_EQUAL(CHARGEFILE_REFUSED_DEPTH, 19);
 }
 
-/* "11 ... place 0, 1 or 2"; of every output place 0. */
+/* "place 0", "place 1", "place 2" of a run; "at place 0 as for every later output" */
 static void places_of_11(void)
 {
     EXPECT_EQUAL(CHARGEFILE_SMALL_OUTPUT, 0);
