@@ -4,8 +4,8 @@
  *     tidy 4 < march.file > april.file
  *
  * Exit status 0, and the tidied charge file on standard output. Exit status 1, the reason on
- * standard error and nothing on standard output, where the charge file is refused or has operations,
- * or where the wanted depth is above 8 or below that of a page which is left after joining.
+ * standard error and nothing on standard output, where the charge file is refused or has
+ * operations, or where the wanted depth is above 8 or below that of a page left after joining.
  */
 #include "job_files.h"
 

@@ -228,8 +228,8 @@ enum chargefile_refusal {
 enum chargefile_small {
     CHARGEFILE_SMALL_OUTPUT = 0,
     CHARGEFILE_SMALL_RESULT = CHARGEFILE_SMALL_OUTPUT, /* the output of a run */
-    CHARGEFILE_SMALL_ROWS = 1,  /* fewer rows than the job has operations */
-    CHARGEFILE_SMALL_MEMORY = 2 /* under CHARGEFILE_MEMORY_SIZE bytes */
+    CHARGEFILE_SMALL_ROWS = 1,                         /* fewer rows than the job has operations */
+    CHARGEFILE_SMALL_MEMORY = 2                        /* under CHARGEFILE_MEMORY_SIZE bytes */
 };
 
 /* ---- Operations and their answers. */

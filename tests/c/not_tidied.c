@@ -19,17 +19,10 @@ static void make_two_full(job *into, counts c)
 /* Every depth from 1 to 8 is taken, and no other. No part of the 64 bits is left out. */
 static void wanted_depths(void)
 {
-    static const uint64_t others[] = {0,
-                                      9,
-                                      255,
-                                      256,
-                                      264,
-                                      1ull << 16,
-                                      1ull << 32,
-                                      (1ull << 32) + 1,
-                                      1ull << 63,
-                                      UINT64_MAX - 7,
-                                      UINT64_MAX};
+    static const uint64_t others[] = {
+        0, 9, 255, 256, 264, 1ull << 16, 1ull << 32, (1ull << 32) + 1, 1ull << 63, UINT64_MAX - 7,
+        UINT64_MAX,
+    };
     make_two_full(&j, (counts){1, 1, 2, 2, 0, 0});
     for (unsigned i = 0; i < sizeof others / sizeof others[0]; i++) {
         expect_not_tidied(&j, others[i], OUT_ROOM, CHARGEFILE_REFUSED_DEPTH, 0);
