@@ -145,7 +145,14 @@ fn write_file(
     ensures { λ _. ⌜ ((f : File) → FileShown f depth capacity pages (now (work .entry)) → now (result .exit) ≡ over (now (result .entry)) at (encodeFile f)) ⌝ }
 {
     Header::put_file(result, at, depth, capacity, pages, memory::used(work));
-    memory::save_file(work, Header::entries_at(depth), capacity, pages, result, at + 32);
+    memory::save_file(
+        work,
+        Header::entries_at(depth),
+        capacity,
+        pages,
+        result,
+        at + 32,
+    );
 }
 
 // The log, the header and, where no operation is begun but unfinished, the charge file; and the length of the result.

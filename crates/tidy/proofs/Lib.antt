@@ -11,3 +11,5 @@ pub mod Gather
 pub mod Table
 -- the parts of the tidied file together
 pub mod Whole
+-- what a call comes to
+pub mod Outcomes

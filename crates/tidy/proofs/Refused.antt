@@ -16,6 +16,7 @@ use Rattle.spec.specs.Decode.{fileOf}
 use Rattle.spec.specs.Check.{numbered}
 use Rattle.spec.specs.Cases.{checkedOf}
 use Rattle.spec.specs.Tidy.{Wanted, pagesLeft, fileWith, tidyFile, tidyBytes, isDeeper, wrongDepth, smallOut}
+use Rattle.laws.specs.Codec.Tools.{failed, orElse-none, numbered-none}
 use Rattle.laws.specs.Codec.Sizes.{length-file}
 use Rattle.laws.specs.Tidy.File.{tidy-ok}
 use Rattle.laws.specs.Tidy.Bytes.{wanted-said}
@@ -80,3 +81,17 @@ module _ {h : Header} {b : List ℕ} (e : Given h b) (left : List ℕ) (is : lef
     pub enough : fileSize d (h .capacity) (h .pages) ≤ room → Accepted ≡ checkedOf (outputFault room d b)
     unfolding checkedOf numbered orElse smallOut when
     enough u = rw (right-depth l t, tidied-length (wanted l t), le-ltb _ _ u)
+
+-- a call that neither 19 nor 11 refuses
+module _ (room d : ℕ) (b : List ℕ) (passed : outputFault room d b ≡ none) where
+  neither : (wrongDepth d b ≡ none) × (smallOut room d b ≡ none)
+  neither =
+      let o = orElse-none (numbered 19 (wrongDepth d b)) (numbered 11 (smallOut room d b)) .0 passed in
+      (numbered-none 19 (wrongDepth d b) .0 (o .0), numbered-none 11 (smallOut room d b) .0 (o .1))
+
+  pub passed-wanted : Wanted d (fileOf b)
+  passed-wanted = wanted-said d b .0 (neither .0)
+
+  pub passed-room : {h : Header} → Given h b → (left : List ℕ) → left ≡ depthsLeft (fileOf b) 0 → fileSize d (h .capacity) (h .pages) ≤ room
+  unfolding smallOut
+  passed-room e left is = rw (← tidied-length e left is d room passed-wanted) (simp failed at (neither .1))

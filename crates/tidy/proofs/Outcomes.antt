@@ -1,0 +1,90 @@
+-- What a call comes to, refused or done, step by step.
+use Prim.Native.Nat.{ℕ, _+_, _≤_}
+use mathlib.Core.Path.{_≡_, refl, sym, ap, _∙_}
+use mathlib.Core.Bool.{not}
+use mathlib.Core.List.{List, _++_}
+use mathlib.Core.Option.{Option, none, some}
+use native.Mathlib.Omega.{arith}
+use lib.ListN.{length, drop}
+use lib.Dec.{eqb}
+use borrow.Author.Tests.{eq-eqb, ne-eqb}
+use Rattle.spec.specs.declared.Outcome.{Outcome}
+use Rattle.spec.specs.declared.Outcome.the-variants.{Done, Refused}
+use Rattle.spec.specs.Basics.{when, orElse}
+use Rattle.spec.specs.Bytes.{AreBytes}
+use Rattle.spec.specs.Decode.{headerOf, fileOf, jobOf}
+use Rattle.spec.specs.Check.{Fault, numbered, jobFault}
+use Rattle.spec.specs.Outcome.{outcomeBy, afterCall, bufferBy}
+use Rattle.spec.specs.Tidy.{tidyBytes, opsPresent, tidyFault, tidyOutcome, tidyBuffer}
+use Rattle.laws.specs.Codec.Accepted.{accepted-file}
+use Rattle.laws.specs.Tidy.Bytes.{tidied}
+use Rattle.header.specs.declared.Header.{Header}
+use Rattle.header.specs.Counts.{countsOf}
+use Rattle.header.specs.Accepted.{accepted-heads}
+use Rattle.wire.specs.Over.{over}
+use Rattle.wire.specs.OverLaws.{over-parts}
+use Rattle.tidy.specs.Given.{Given}
+use Rattle.tidy.specs.Call.{Settled, outputFault, fileFault, Comes}
+
+-- refused: nothing is written; done: the tidied file stands first, and what lies behind it is as it was
+pub comes-refused : {fault : Option Fault} {d : ℕ} {b s : List ℕ} (n p : ℕ) → fault ≡ some (record { number = n; place = p }) → Comes fault d b s s (Refused n p)
+unfolding outcomeBy bufferBy afterCall
+comes-refused n p e = record { answer = rw e; output = rw e }
+
+front : (x s : List ℕ) → length x ≤ length s → over s 0 x ≡ x ++ drop (length x) s
+front x s l =
+    let z : 0 + length x ≡ length x = omega arith in
+    over-parts x s 0 (omega arith) ∙ ap (λ n. x ++ drop n s) z
+
+pub comes-done
+    : {fault : Option Fault} {d : ℕ} {b s t : List ℕ} {n : ℕ}
+    → fault ≡ none
+    → n ≡ length (tidyBytes d b)
+    → t ≡ over s 0 (tidyBytes d b)
+    → length (tidyBytes d b) ≤ length s
+    → Comes fault d b s t (Done n)
+unfolding outcomeBy bufferBy afterCall
+comes-done {d = d} {b = b} {s = s} e l w u =
+    record { answer = rw (e, l); output = rw e (w ∙ front (tidyBytes d b) s u) }
+
+-- 18, or what is behind it
+ops-there : (b : List ℕ) → (headerOf b .ops ≡ 0 → ⊥) → opsPresent b ≡ some 8
+unfolding opsPresent when
+ops-there b n = rw (ne-eqb (headerOf b .ops) 0 n)
+
+ops-none : (b : List ℕ) → headerOf b .ops ≡ 0 → opsPresent b ≡ none
+unfolding opsPresent when
+ops-none b e = rw (eq-eqb (headerOf b .ops) 0 e)
+
+pub by-ops : (room d : ℕ) (b : List ℕ) → (headerOf b .ops ≡ 0 → ⊥) → fileFault room d b ≡ some (record { number = 18; place = 8 })
+unfolding orElse numbered
+by-ops room d b n = rw (ops-there b n)
+
+pub by-output : (room d : ℕ) (b : List ℕ) → headerOf b .ops ≡ 0 → fileFault room d b ≡ outputFault room d b
+unfolding orElse numbered
+by-output room d b e = rw (ops-none b e)
+
+-- the file's own refusals come first
+pub by-file : (room d : ℕ) (b : List ℕ) → jobFault b ≡ none → tidyFault room d b ≡ fileFault room d b
+unfolding tidyFault orElse
+by-file room d b e = rw e
+
+pub by-job : (room d : ℕ) (b : List ℕ) (f : Fault) → jobFault b ≡ some f → tidyFault room d b ≡ some f
+unfolding tidyFault orElse
+by-job room d b f e = rw e
+
+-- an accepted file, with its header
+pub given : (h : Header) (b : List ℕ) → jobFault b ≡ none → countsOf h ≡ headerOf b → Given h b
+unfolding jobOf
+given h b e c = record { heads = accepted-heads h b e c; ok = accepted-file b e }
+
+-- THE CALL
+pub settled
+    : {fault : Option Fault} {d : ℕ} {b s t : List ℕ} {r : Outcome}
+    → AreBytes b
+    → tidyFault (length s) d b ≡ fault
+    → Comes fault d b s t r
+    → Settled b d s t r
+unfolding tidyOutcome tidyBuffer
+settled {d = d} {b = b} {s = s} bytes e c =
+    record { answer = rw e (c .answer); output = rw e (c .output); tidied = tidied (length s) d b bytes }
