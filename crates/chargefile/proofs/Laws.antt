@@ -1,20 +1,24 @@
--- Refusal 0 is told exactly when no row of the refusal table holds; and what is handed over, of a check and of a run.
+-- Refusal 0 is told exactly when nothing is refused; and what is handed over, of a check, of a run and of tidying.
 use Prim.Native.Nat.{ℕ}
 use mathlib.Core.Path.{_≡_, refl, sym, ap, subst, _∙_}
 use mathlib.Core.Logic.{_↔_}
 use mathlib.Core.List.{List}
 use mathlib.Core.Option.{Option, none, some, Option·none-ne-some}
+use lib.ListN.{length}
 use Rattle.spec.specs.declared.Outcome.{Outcome}
 use Rattle.spec.specs.declared.Outcome.the-variants.{Done, Refused}
 use Rattle.spec.specs.Check.{Fault, jobFault, firstFault}
 use Rattle.spec.specs.Cases.{checkedOf}
 use Rattle.spec.specs.Outcome.{resultBytes, outcomeBy, outcome}
+use Rattle.spec.specs.Tidy.{tidyBytes, tidyFault, tidyOutcome}
+use Rattle.laws.specs.Tidy.Bytes.{fault-numbered}
 use Rattle.laws.specs.Codec.Numbered.{Numbered, job-numbered, first-numbered}
 use Rattle.turn.specs.declared.Row.{Row}
 use Rattle.run.specs.Call.{lent, Settled}
+use Rattle.tidy.specs.Call.{Settled as TidySettled}
 use Rattle.chargefile.specs.declared.CallOutcome.{CallOutcome}
 use Rattle.chargefile.specs.Handed.{handed, outcomeOf}
-use Rattle.chargefile.specs.Called.{CheckCalled, Called}
+use Rattle.chargefile.specs.Called.{CheckCalled, Called, TidyCalled}
 
 -- an outcome that goes by a fault, whose number is not 0
 zero-none
@@ -54,4 +58,22 @@ called {b} {s} {t} {x} {y} {w} {u} o h z =
       run = subst (λ (v : Outcome). Settled b s t x y w u v) (h .answer) h;
       handed = e;
       accepted = subst (λ (v : CallOutcome). (v .refusal ≡ 0) ↔ (firstFault (lent s x w) b ≡ none)) (sym e) (run-zero b s x w);
+    }
+
+-- tidying's outcome o, handed over
+tidy-zero : (room d : ℕ) (b : List ℕ) → (handed (tidyOutcome room d b) .refusal ≡ 0) ↔ (tidyFault room d b ≡ none)
+unfolding tidyOutcome outcomeBy
+tidy-zero room d b = zero-none (tidyFault room d b) (λ o. outcomeBy o (tidyBytes d b)) refl (λ f. refl) (fault-numbered room d b)
+
+pub tidy-called
+    : {b : List ℕ} {d : ℕ} {s t : List ℕ} {r : CallOutcome} (o : Outcome)
+    → TidySettled b d s t o
+    → r ≡ handed o
+    → TidyCalled b d s t r
+tidy-called {b} {d} {s} {t} o h z =
+    let e = z ∙ ap handed (h .answer) in
+    record {
+      tidied = subst (λ (v : Outcome). TidySettled b d s t v) (h .answer) h;
+      handed = e;
+      accepted = subst (λ (v : CallOutcome). (v .refusal ≡ 0) ↔ (tidyFault (length s) d b ≡ none)) (sym e) (tidy-zero (length s) d b);
     }

@@ -4,7 +4,7 @@ use spec::Outcome;
 use turn::Row;
 ghost use mathlib.Core.Path.{_≡_};
 ghost use Rattle.chargefile.specs.Handed.{outcomeOf, handed};
-ghost use Rattle.chargefile.specs.Called.{CheckCalled, Called};
+ghost use Rattle.chargefile.specs.Called.{CheckCalled, Called, TidyCalled};
 
 // What a call comes to. refusal 0: done, and length is the output's; else its number, with place, and length 0.
 // It is given by value, so that a refused call has written to no lent memory whatever.
@@ -64,5 +64,15 @@ pub extern "C" fn chargefile_run(
     ensures { λ r. ⌜ Called (now (job .entry)) (now (result .entry)) (now (result .exit)) (now (rows .entry)) (now (rows .exit)) (now (memory .entry)) (now (memory .exit)) r ⌝ }
 {
     let o = run::run(job, result, rows, memory);
+    handed(o)
+}
+
+// A charge file tidied between two runs, with a directory of the wanted depth. Any depth may be asked for, and any length lent: what cannot be is
+// refused 19 or 11.
+#[no_mangle]
+pub extern "C" fn chargefile_tidy(file: &[u8], depth: u64, out: &mut [u8]) -> CallOutcome
+    ensures { λ r. ⌜ TidyCalled (now (file .entry)) depth (now (out .entry)) (now (out .exit)) r ⌝ }
+{
+    let o = tidy::tidy(file, depth as usize, out);
     handed(o)
 }

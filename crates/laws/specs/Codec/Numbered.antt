@@ -50,11 +50,14 @@ back-number b =
     (next (plain _ _ refl refl) (next (plain _ _ refl refl) (next (plain _ _ refl refl) (next (plain _ _ refl refl) end))))
 
 -- NO NUMBER IS 0
-abbrev Above0 : Fault → Type 0
+abbrev pub Above0 : Fault → Type 0
 Above0 f = f .number ≡ 0 → ⊥
 
 abbrev pub Numbered : Option Fault → Type 0
 Numbered o = Tells Above0 o
+
+pub above0 : (n : ℕ) (x : Option ℕ) → eqb n 0 ≡ false → Numbered (numbered n x)
+above0 n x l = tells-row Above0 n x (λ p e. eqb-no n 0 .0 l)
 
 pub job-numbered : (b : List ℕ) → Numbered (jobFault b)
 unfolding jobFault

@@ -1,6 +1,6 @@
 -- TIDYING OF BYTES: when a call is not refused, and that what is then written keeps all that is claimed.
 use Prim.Native.Nat.{ℕ, suc, _≤_}
-use mathlib.Core.Path.{_≡_, ap, _∙_}
+use mathlib.Core.Path.{_≡_, refl, ap, _∙_}
 use mathlib.Core.Logic.{_↔_}
 use mathlib.Core.List.{List, []}
 use mathlib.Core.Bool.{false}
@@ -20,6 +20,8 @@ use Rattle.spec.specs.Tidy.{Wanted, pagesLeft, tidyFile, tidyBytes, opsPresent,
 use Rattle.spec.specs.Tidied.{Joined, Tidied, Tidies, longest}
 use Rattle.laws.specs.Tools.{each-imp}
 use Rattle.laws.specs.Codec.Tools.{failed, orElse-none, numbered-none, each-places}
+use Rattle.laws.specs.Codec.Told.{tells-either}
+use Rattle.laws.specs.Codec.Numbered.{Above0, Numbered, above0, job-numbered}
 use Rattle.laws.specs.Codec.Walk.{any-from-1, any-none}
 use Rattle.laws.specs.Codec.Longest.{file-most}
 use Rattle.laws.specs.Codec.Proper.{RecordsFit, job-fits, file-proper}
@@ -65,6 +67,13 @@ done-said room d b =
       λ h. record { accepted = h .0; noOps = h .1 .0; wanted = h .1 .1 .0; enough = h .1 .1 .1 },
       λ t. (t .accepted, (t .noOps, (t .wanted, t .enough))),
     )
+
+-- no number is 0: where 0 is told, nothing is refused
+pub fault-numbered : (room d : ℕ) (b : List ℕ) → Numbered (tidyFault room d b)
+unfolding tidyFault
+fault-numbered room d b =
+    tells-either Above0 _ _ (job-numbered b)
+    (tells-either Above0 _ _ (above0 18 _ refl) (tells-either Above0 _ _ (above0 19 _ refl) (above0 11 _ refl)))
 
 -- however the pages are joined
 pub joined : (f : File) → FileOk f → Joined f
