@@ -15,7 +15,7 @@ pub in-order : (j : Job) → FileOk (j .file) → InOrder j
 in-order j ok = record { pagesRise = up; looks = λ t x k l. look-find _ k (up t x l) }
   where
     up : (t x : ℕ) → t ≤ length (j .turns) → CallsRise (pageAt (stateAt j t .file) x .records)
-    up t x l = whole j ok t l .tidy .pages x .callsRise
+    up t x l = whole j ok t l .coherent .pages x .callsRise
 
 -- CALLS RISE IN EVERY PAGE
 pub pages-in-order : PagesInOrder

@@ -146,7 +146,7 @@ pub months : MonthsTogether
 months a bytes accepted bs ms =
     let t = all-months a bs (contents (fileOf a)) bytes accepted (λ k. refl) ms in
     let once = feed-once (a ∷ bs) (contents (fileOf a)) (holds-once (fileOf a) (file-ok a accepted)) in
-    let end-once = contents-twice (run (jobOf (lastOf a bs)) .file) (end-whole (jobOf (lastOf a bs)) (t .ok) .tidy .pages) in
+    let end-once = contents-twice (run (jobOf (lastOf a bs)) .file) (end-whole (jobOf (lastOf a bs)) (t .ok) .coherent .pages) in
     record {
       answers = t .answers;
       held = λ r. (same-has _ _ once (t .finds) r, same-has _ _ end-once (λ k. sym (t .finds k)) r);

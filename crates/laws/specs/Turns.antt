@@ -24,7 +24,7 @@ pub mod Says
 pub mod Does
 pub mod PageTurns
 pub mod SplitTurns
-pub mod Tidy
+pub mod Coherent
 -- answers are given once
 pub mod Codes
 -- which page every entry names

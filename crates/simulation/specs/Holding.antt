@@ -95,14 +95,14 @@ module _ (ops : List Op) (s : State) (i : ℕ) (w : List ℕ) (st : Steady ops s
       p = pageAt (s .file) x
 
       here : In p (op .call)
-      here = rw e at (st .tidy .home (op .call))
+      here = rw e at (st .coherent .home (op .call))
 
       count
           : ltb (length (p .records)) (s .file .c) ≡ false
           → allShare (s .file .g) (p .records) (op .call) ≡ false
           → newCount (s .file) op x ≡ splitCount p (op .call)
       count a b =
-          split-count (s .file .g) (s .file .c) p (recOf op) (st .good .fit .depth) (st .tidy .pages x) here (ltb-false _ _ a) b
+          split-count (s .file .g) (s .file .c) p (recOf op) (st .good .fit .depth) (st .coherent .pages x) here (ltb-false _ _ a) b
 
   on-decide
       : (x : ℕ) (k : Kind) (o : Option Rec)
@@ -131,7 +131,7 @@ module _ (ops : List Op) (s : State) (i : ℕ) (w : List ℕ) (st : Steady ops s
   on-write x Delete e n t =
       rw (look-is ops s w st h x (op .call))
       (paged ops s i w (st .good) (h .picture) _ _ x _ (omega (arith, st .good .fit .within))
-      (let l = filter-le (isNot (op .call)) (pageAt (s .file) x .records) in omega (arith, st .tidy .pages x .room)))
+      (let l = filter-le (isNot (op .call)) (pageAt (s .file) x .records) in omega (arith, st .coherent .pages x .room)))
 
   -- an operation that holds page x; the writing of a split's old page is given
   pub on-held

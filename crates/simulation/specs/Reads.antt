@@ -32,7 +32,7 @@ module _ (ops : List Op) (s : State) (w : List ℕ) (st : Steady ops s) (h : Sho
 
   -- looking that stops at the first higher number finds what is there
   pub look-is : (x k : ℕ) → lookIn (pageAt (s .file) x .records) k ≡ findIn (pageAt (s .file) x .records) k
-  look-is x k = look-find (pageAt (s .file) x .records) k (st .tidy .pages x .callsRise)
+  look-is x k = look-find (pageAt (s .file) x .records) k (st .coherent .pages x .callsRise)
 
   module _ (op : Op) where
     pub named-is : named (shapeOf (s .file)) op w ≡ entryOf (s .file) op

@@ -49,7 +49,7 @@ module _ (ops : List Op) (s : State) (i : ℕ) (w : List ℕ) (st : Steady ops s
   readable x n =
       record {
         number = omega (arith, n, st .good .fit .within, st .good .fit .most);
-        count = rw (page-used ops s w st h x n) (st .tidy .pages x .room);
+        count = rw (page-used ops s w st h x n) (st .coherent .pages x .room);
       }
 
   reading : (x : ℕ) → stageOf s i ≡ ReadPage x → PageNo f x → Reading sh op w x
@@ -60,12 +60,12 @@ module _ (ops : List Op) (s : State) (i : ℕ) (w : List ℕ) (st : Steady ops s
             rw (page-used ops s w st h x n, named-is ops s w st h op, look-is ops s w st h x (op .call))
             (λ q z.
             omega
-            (arith, found-slot ops s i x c (turnIn w) (st .good) (st .tidy) (st .rising) (st .followed) (h .turns) e q z .1, st .good .fit .depth));
+            (arith, found-slot ops s i x c (turnIn w) (st .good) (st .coherent) (st .rising) (st .followed) (h .turns) e q z .1, st .good .fit .depth));
       }
 
   planned : (x : ℕ) → PageNo f x → Plan f op x → FullPage f x → Planned sh op w x
   planned x n p u =
-      let k = st .tidy .pages x in
+      let k = st .coherent .pages x in
       record {
         number = omega (arith, n, st .good .fit .within, st .good .fit .most);
         splits =
@@ -103,7 +103,7 @@ module _ (ops : List Op) (s : State) (i : ℕ) (w : List ℕ) (st : Steady ops s
             plan = planned x (fi .0 .number) (k .0) u;
             count =
                 fi .0 .count
-                ∙ (rw (page-used ops s w st h x (fi .0 .number)) (full-count f op x u (st .good .fit) (st .tidy .pages x) (k .0)));
+                ∙ (rw (page-used ops s w st h x (fi .0 .number)) (full-count f op x u (st .good .fit) (st .coherent .pages x) (k .0)));
             behind = fi .0 .below;
             room = omega (arith, fi .0 .top, st .good .fit .within, st .good .fit .most);
           }
@@ -129,7 +129,7 @@ module _ (ops : List Op) (s : State) (i : ℕ) (w : List ℕ) (st : Steady ops s
         ready =
             record { size = h .picture .long; depth = st .good .fit .depth; capacity = st .good .fit .capacity .1; pages = st .good .fit .most };
         few = few;
-        at = rw (stage-back (rowOf s i)) (unfold stageOf in stage-safe (stageOf s i) refl (st .good .fine i) (st .tidy .work i) (st .full i));
+        at = rw (stage-back (rowOf s i)) (unfold stageOf in stage-safe (stageOf s i) refl (st .good .fine i) (st .coherent .work i) (st .full i));
       }
 
 pub safe

@@ -60,7 +60,7 @@ module _ (ops : List Op) (s : State) (i : ℕ) (w : List ℕ) (st : Steady ops s
   unfolding foundAt
   found-is x c n e q =
       rw (named-is ops s w st h op, page-used ops s w st h x n, home-is (s .file) op)
-      (sym (found-moment ops s i x c (turnIn w) (st .good) (st .tidy) (st .rising) (st .followed) (h .turns) e q))
+      (sym (found-moment ops s i x c (turnIn w) (st .good) (st .coherent) (st .rising) (st .followed) (h .turns) e q))
 
   on-looked
       : (x : ℕ) (o : Option Rec)

@@ -60,7 +60,7 @@ module _ (ops : List Op) (s : State) (i : ℕ) (w : List ℕ) (st : Steady ops s
   moves (Lock x) e b = on-lock ops s i w st h x (rw e at (st .good .fine i)) b
   moves (Held x t) e b =
       let n : Fine (s .file) op (Held x t) = rw e at (st .good .fine i) in
-      let k : Work (s .file) op (Held x t) = rw e at (st .tidy .work i) in
+      let k : Work (s .file) op (Held x t) = rw e at (st .coherent .work i) in
       on-held ops s i w st h x t (λ (z : t ≡ WriteOld). rw z (on-old ops s i w st h x (e ∙ ap (Held x) z))) (n .0) k
   moves (Split x b n q) e c = on-split ops s i w st h x b n q e
   moves Done e b = absurd (true≢false b)
@@ -95,9 +95,9 @@ module _ (ops : List Op) (s : State) (i : ℕ) (w : List ℕ) (st : Steady ops s
             record {
               picture = rw z (t .picture);
               turns =
-                  slots-same (slotAfter s (stageOf s i) (turnIn w)) (turnIn (turned (stageOf s i) .work)) (step ops s i) (after .tidy .pages) (after .rising)
+                  slots-same (slotAfter s (stageOf s i) (turnIn w)) (turnIn (turned (stageOf s i) .work)) (step ops s i) (after .coherent .pages) (after .rising)
                   (λ q d l k. t .turns q d (entry-256 (step ops s i .file) (after .good .fit) q l) (omega (arith, after .good .fit .depth)))
-                  (step-slots ops s i (turnIn w) (st .good) (st .tidy) (st .settled) (st .rising) (h .turns));
+                  (step-slots ops s i (turnIn w) (st .good) (st .coherent) (st .settled) (st .rising) (h .turns));
             };
         row = t .row ∙ ap rowImage (rw z (sym (rowOf-same s i (turn s op (stageOf s i)) (moves-row s i e))));
       }

@@ -67,15 +67,15 @@ module _ (ops : List Op) (s : State) (i : ℕ) (w : List ℕ) (st : Steady ops s
   unfolding turn memTurn heldTurn memHeld oldWritten memOld goes
   on-old x e =
       let n : Fine f op (Held x WriteOld) = rw e at (st .good .fine i) in
-      let k : Work f op (Held x WriteOld) = rw e at (st .tidy .work i) in
+      let k : Work f op (Held x WriteOld) = rw e at (st .coherent .work i) in
       let u : Full f (Held x WriteOld) = rw e at (st .full i) in
-      let count = full-count f op x u (st .good .fit) (st .tidy .pages x) (k .0) in
-      let stays = own-stays f op x (st .good .fit) (st .tidy .pages x) (k .0) 0 in
+      let count = full-count f op x u (st .good .fit) (st .coherent .pages x) (k .0) in
+      let stays = own-stays f op x (st .good .fit) (st .coherent .pages x) (k .0) 0 in
       let test : eqb (lastSplit f op x (homeOf f op)) 0 ≡ eqb (goesTo f op x 0 (homeOf f op)) 0
       = bool-same _ _ (λ z. eq-eqb _ _ (stays .1 (eqb-true _ _ z))) (λ z. eq-eqb _ _ (stays .0 (eqb-true _ _ z))) in
       rw (page-used ops s w st h x (n .0), plan-is ops s w st h op x (n .0), home-is f op, ← count, test, told-if)
       (paged ops s i w (st .good) (h .picture) _ _ x _ (omega (arith, n .0, st .good .fit .within))
-      (first (made f op x (st .good .fit) (st .tidy .pages x) (k .0)) .ok .room))
+      (first (made f op x (st .good .fit) (st .coherent .pages x) (k .0)) .ok .room))
 
   module _ (x b n : ℕ) where
     on-new
@@ -85,11 +85,11 @@ module _ (ops : List Op) (s : State) (i : ℕ) (w : List ℕ) (st : Steady ops s
     unfolding splitTurn memSplit memNew afterNew told
     on-new m e =
         let q : Fine f op (Split x b n (WriteNew m)) = rw e at (st .good .fine i) in
-        let k : Work f op (Split x b n (WriteNew m)) = rw e at (st .tidy .work i) in
-        rw (plan-is ops s w st h op x (q .0 .number), add-one, behind-is, ← split-first ops s i x b n (st .good) (st .tidy) (st .settled) m e)
+        let k : Work f op (Split x b n (WriteNew m)) = rw e at (st .coherent .work i) in
+        rw (plan-is ops s w st h op x (q .0 .number), add-one, behind-is, ← split-first ops s i x b n (st .good) (st .coherent) (st .settled) m e)
         (paged ops s i w (st .good) (h .picture) _ same (b + m) _ (omega (arith, q .0 .top, q .1, st .good .fit .within))
         (each-or (planOf f op x .news) (m - 1) zeroPage (omega arith)
-        (each-imp (λ (z : Page) g. g .ok .room) (rest (made f op x (st .good .fit) (st .tidy .pages x) (k .0))))))
+        (each-imp (λ (z : Page) g. g .ok .room) (rest (made f op x (st .good .fit) (st .coherent .pages x) (k .0))))))
 
     on-entry
         : (j : ℕ)
@@ -99,15 +99,15 @@ module _ (ops : List Op) (s : State) (i : ℕ) (w : List ℕ) (st : Steady ops s
     unfolding splitTurn memSplit memEntry afterEntry goes
     on-entry j e =
         let q : Fine f op (Split x b n (WriteEntry j)) = rw e at (st .good .fine i) in
-        let k : Work f op (Split x b n (WriteEntry j)) = rw e at (st .tidy .work i) in
-        let next = split-next ops s i x b n (st .good) (st .tidy) (st .settled) j e in
-        let go = goes-last f op x (st .good .fit) (st .tidy .pages x) (k .0) b j (k .1 .2) (q .1) in
+        let k : Work f op (Split x b n (WriteEntry j)) = rw e at (st .coherent .work i) in
+        let next = split-next ops s i x b n (st .good) (st .coherent) (st .settled) j e in
+        let go = goes-last f op x (st .good .fit) (st .coherent .pages x) (k .0) b j (k .1 .2) (q .1) in
         let to : b + lastOne (f .g) (op .call) j n (pageAt f x .depth) 1 0 ≡ goesTo f op x b j = rw (q .0 .count) (sym (go .0)) in
         let span = goes-span f op x b n j (q .0) (q .1) in
         rw (page-used ops s w st h x (q .0 .number), home-is f op, add-one, behind-is, ← next .3, told-if, to)
         (entered ops s i w (st .good) (h .picture) _ _ j (goesTo f op x b j) (pageAt f x .depth) (k .1 .2)
         (omega (arith, span, q .0 .top, st .good .fit .within, st .good .fit .most))
-        (omega (arith, entry-slot ops s i x b n j (st .good) (st .tidy) e, st .good .fit .depth))
+        (omega (arith, entry-slot ops s i x b n j (st .good) (st .coherent) e, st .good .fit .depth))
         (st .time))
 
     on-unlock

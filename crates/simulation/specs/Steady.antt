@@ -17,7 +17,7 @@ use Rattle.laws.specs.Codec.Proper.{JobProper}
 use Rattle.laws.specs.ReadBack.{narrow-at}
 use Rattle.laws.specs.Room.{Shaped, run-shaped}
 use Rattle.laws.specs.Turns.Good.{Good}
-use Rattle.laws.specs.Turns.Does.{Tidy}
+use Rattle.laws.specs.Turns.Does.{Coherent}
 use Rattle.laws.specs.Turns.Settled.{Settled}
 use Rattle.laws.specs.Turns.States.{stateAt-now}
 use Rattle.laws.specs.Turns.Whole.{whole}
@@ -30,7 +30,7 @@ use Rattle.simulation.specs.Shown.{shapeOf}
 
 pub record Steady (ops : List Op) (s : State) : Type 0 where
   pub good : Good ops s
-  pub tidy : Tidy ops s
+  pub coherent : Coherent ops s
   pub settled : Settled ops s
   pub rising : Rising s
   pub followed : Followed ops s
@@ -41,7 +41,7 @@ pub record Steady (ops : List Op) (s : State) : Type 0 where
 -- a page fits its bytes
 pub page-fits : (ops : List Op) (s : State) → Steady ops s → (x : ℕ) → PageFits (s .file .c) (pageAt (s .file) x)
 page-fits ops s st x =
-    let p = st .tidy .pages x in
+    let p = st .coherent .pages x in
     let m = pow-mono {i = pageAt (s .file) x .depth} {j = 8} (omega (arith, p .deep, st .good .fit .depth)) in
     record { pattern = omega (arith, p .small); count = p .room; records = st .records x }
 
@@ -58,7 +58,7 @@ steady j h k l =
     let w = whole j (h .file) k l in
     record {
       good = w .good;
-      tidy = w .tidy;
+      coherent = w .coherent;
       settled = w .settled;
       rising = rising j (h .file) k l;
       followed = followed j (h .file) k l;

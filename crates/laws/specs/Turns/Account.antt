@@ -20,8 +20,8 @@ use Rattle.laws.specs.Turns.Rows.{rowOf-same, step-case}
 use Rattle.laws.specs.Turns.Good.{Good}
 use Rattle.laws.specs.Turns.Lookup.{lookup}
 use Rattle.laws.specs.Turns.Says.{Changes, changes-code, says-change}
-use Rattle.laws.specs.Turns.Does.{Own, quiet, sees, seesNone, says, Tidy, Does}
-use Rattle.laws.specs.Turns.Tidy.{i-does}
+use Rattle.laws.specs.Turns.Does.{Own, quiet, sees, seesNone, says, Coherent, Does}
+use Rattle.laws.specs.Turns.Coherent.{i-does}
 use Rattle.laws.specs.Turns.Codes.{Codes, Kept, act-kept}
 
 -- operation i changed what the file holds of call k on turn t
@@ -71,16 +71,16 @@ module _ (H : ℕ → ℕ → Option Rec) (ops : List Op) (s : State) (i : ℕ)
     unfolding rowOf
     tick-account after = more-cause (tick s) refl (λ j n. (refl, refl)) (λ k. inl (after k ∙ sym (before k)))
 
-    module _ (good : Good ops s) (tidy : Tidy ops s) (codes : Codes ops s) (lt : i < length (s .rows)) where
+    module _ (good : Good ops s) (coherent : Coherent ops s) (codes : Codes ops s) (lt : i < length (s .rows)) where
       abbrev m : Move
       m = turn s (getD ops i noOp) (stageOf s i)
 
       d : Does s (getD ops i noOp) (stageOf s i) m
-      d = i-does ops s i good tidy
+      d = i-does ops s i good coherent
 
       act-account : ((k : ℕ) → H (suc (s .now)) k ≡ lookup (fileAfter m (s .file)) k) → Account H ops (act s i m)
       act-account after =
-          more-cause (act s i m) refl (act-kept ops s i good tidy codes lt)
+          more-cause (act s i m) refl (act-kept ops s i good coherent codes lt)
           (λ k.
           by-cases (ℕ-discrete k (getD ops i noOp .call))
           (λ (q : k ≡ getD ops i noOp .call).
@@ -92,10 +92,10 @@ module _ (H : ℕ → ℕ → Option Rec) (ops : List Op) (s : State) (i : ℕ)
     pub step-account
         : ((k : ℕ) → H (suc (s .now)) k ≡ lookup (step ops s i .file) k)
         → Good ops s
-        → Tidy ops s
+        → Coherent ops s
         → Codes ops s
         → Account H ops (step ops s i)
-    step-account after good tidy codes =
+    step-account after good coherent codes =
         step-case (λ t. ((k : ℕ) → H (suc (s .now)) k ≡ lookup (t .file) k) → Account H ops t) ops s i tick-account
-        (λ lt e. act-account good tidy codes lt)
+        (λ lt e. act-account good coherent codes lt)
         after

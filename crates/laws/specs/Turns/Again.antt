@@ -22,7 +22,7 @@ use Rattle.laws.specs.Tools.{if-case, if-true}
 use Rattle.laws.specs.Key.{index-onto}
 use Rattle.laws.specs.Turns.Prefix.{fit-32, begins-in, in-begins}
 use Rattle.laws.specs.Turns.Good.{Good}
-use Rattle.laws.specs.Turns.Does.{Tidy}
+use Rattle.laws.specs.Turns.Does.{Coherent}
 use Rattle.laws.specs.Turns.Owned.{Busy}
 use Rattle.laws.specs.Turns.Settled.{Settled}
 use Rattle.laws.specs.Turns.Whole.{Whole, end-whole}
@@ -49,21 +49,21 @@ count-zero (r ∷ rs) (suc i) e u =
 settled-ok
     : (ops : List Op) (s : State)
     → Good ops s
-    → Tidy ops s
+    → Coherent ops s
     → Settled ops s
     → ((i p : ℕ) → Busy (stageOf s i) p → ⊥)
     → FileOk (s .file)
-settled-ok ops s good tidy t n =
+settled-ok ops s good coherent t n =
     record {
       fit = good .fit;
-      pages = λ x p. tidy .pages x;
+      pages = λ x p. coherent .pages x;
       names = λ e l.
           let k = index-onto g e g32 l in
           let x = entryAt (s .file) (index g (k .0)) in
-          rw (← k .1) (in-begins g (pageAt (s .file) x) (k .0) (tidy .pages x .deep) g32 (tidy .home (k .0)));
+          rw (← k .1) (in-begins g (pageAt (s .file) x) (k .0) (coherent .pages x .deep) g32 (coherent .home (k .0)));
       owner = λ e x l p b.
           let k = index-onto g e g32 l in
-          let i = begins-in g (pageAt (s .file) x) (k .0) (tidy .pages x .deep) g32 (rw (← k .1) at b) in
+          let i = begins-in g (pageAt (s .file) x) (k .0) (coherent .pages x .deep) g32 (rw (← k .1) at b) in
           rw (← k .1) (t .owner x p (λ j. n j x) (k .0) i);
       unused = t .unused;
     }
@@ -76,7 +76,7 @@ settled-ok ops s good tidy t n =
 
 pub final-ok : (j : Job) → FileOk (j .file) → result j .unended ≡ 0 → FileOk (run j .file)
 unfolding result resultOf stageOf rowOf
-final-ok j ok z = settled-ok (j .ops) (run j) (w .good) (w .tidy) (w .settled) (λ i p b. count-zero (run j .rows) i z (busy-under _ p b))
+final-ok j ok z = settled-ok (j .ops) (run j) (w .good) (w .coherent) (w .settled) (λ i p b. count-zero (run j .rows) i z (busy-under _ p b))
   where
     w : Whole j (run j)
     w = end-whole j ok

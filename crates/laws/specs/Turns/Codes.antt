@@ -35,7 +35,7 @@ use Rattle.laws.specs.Turns.Plans.{goes-same, goes-any, Passed, entries-
 use Rattle.laws.specs.Turns.Good.{Planned, FinePart, Fine, MayPage, Good, other-page}
 use Rattle.laws.specs.Turns.Legal.{i-legal}
 use Rattle.laws.specs.Turns.Work.{WorkPart, Work}
-use Rattle.laws.specs.Turns.Does.{Tidy}
+use Rattle.laws.specs.Turns.Does.{Coherent}
 
 -- of an operation that splits page x: its moment is the writing of the old page, if its entry stays
 abbrev pub Splits : File → Op → ℕ → ℕ → Type 0
@@ -291,9 +291,9 @@ same-kept : (a : Answer) (r : Row) → a ≡ same → (codeAfter a r ≡ r .code
 unfolding codeAfter momentAfter
 same-kept a r e = (rw (e, codeAfter), rw (e, momentAfter))
 
-module _ (ops : List Op) (s : State) (i : ℕ) (good : Good ops s) (tidy : Tidy ops s) (codes : Codes ops s) where
+module _ (ops : List Op) (s : State) (i : ℕ) (good : Good ops s) (coherent : Coherent ops s) (codes : Codes ops s) where
   i-tells : i < length (s .rows) → Tells s (getD ops i noOp) (rowOf s i) (turn s (getD ops i noOp) (stageOf s i))
-  i-tells lt = turn-tells s _ (rowOf s i) (stageOf s i) (good .fit) (good .fine i) (tidy .work i) (codes .code i lt)
+  i-tells lt = turn-tells s _ (rowOf s i) (stageOf s i) (good .fit) (good .fine i) (coherent .work i) (codes .code i lt)
 
   act-codes
       : (m : Move)

@@ -1,4 +1,4 @@
--- What a turn does, as a record of obligations: the file stays in order (`Tidy`), and what it holds changes only as the turn's answer says,
+-- What a turn does, as a record of obligations: the file stays in order (`Coherent`), and what it holds changes only as the turn's answer says,
 -- for the operation's call alone. Definitions only.
 use Prim.Native.Nat.{ℕ, suc, _<_}
 use mathlib.Core.Path.{_≡_}
@@ -47,7 +47,7 @@ pub data Own (s : State) (st : Stage) (op : Op) (a b : Option Rec) : Answer → 
   says : {k c : ℕ} → Says op a b k c → Own s st op a b (answer k c (s .now))
 
 -- every page is as it should be, every call's entry names the page that the call is of, and each operation's work stands as its stage says
-pub record Tidy (ops : List Op) (s : State) : Type 0 where
+pub record Coherent (ops : List Op) (s : State) : Type 0 where
   pub pages : (x : ℕ) → PageOk (s .file .g) (s .file .c) (pageAt (s .file) x)
   pub home : (k : ℕ) → In (pageAt (s .file) (entryAt (s .file) (index (s .file .g) k))) k
   pub work : (i : ℕ) → Work (s .file) (getD ops i noOp) (stageOf s i)

@@ -29,8 +29,8 @@ use Rattle.laws.specs.Turns.Rows.{row-after, step-case, first-row}
 use Rattle.laws.specs.Turns.Good.{Fine, Good}
 use Rattle.laws.specs.Turns.Work.{Work}
 use Rattle.laws.specs.Turns.Says.{Says, isFound, isNone, isStored, isThere, isDeleted, isAbsent, isNoDepth, isNoPage}
-use Rattle.laws.specs.Turns.Does.{Own, quiet, sees, seesNone, says, Tidy}
-use Rattle.laws.specs.Turns.Tidy.{i-does}
+use Rattle.laws.specs.Turns.Does.{Own, quiet, sees, seesNone, says, Coherent}
+use Rattle.laws.specs.Turns.Coherent.{i-does}
 use Rattle.laws.specs.Turns.Reads.{Reads}
 use Rattle.laws.specs.Turns.States.{hist, firstTurn, who, stateAt-suc, stateAt-zero, stateAt-now}
 use Rattle.laws.specs.Turns.Whole.{whole}
@@ -100,8 +100,8 @@ module _ (f : File) (op : Op) (fit : Fit f) (pages : (x : ℕ) → PageOk (f .g)
 pub stage-fields : (j : Job) → FileOk (j .file) → (i t : ℕ) → t ≤ length (j .turns) → StageFields t (stageOf (stateAt j t) i)
 stage-fields j ok i t l =
     let w = whole j ok t l in
-    all-fields (stateAt j t .file) (getD (j .ops) i noOp) (w .good .fit) (w .tidy .pages) (hist j) (firstTurn (j .turns) i) (stateAt j t) t
-    (stageOf (stateAt j t) i) (stateAt-now j t l) (w .good .fine i) (w .tidy .work i) (w .past .reads i)
+    all-fields (stateAt j t .file) (getD (j .ops) i noOp) (w .good .fit) (w .coherent .pages) (hist j) (firstTurn (j .turns) i) (stateAt j t) t
+    (stageOf (stateAt j t) i) (stateAt-now j t l) (w .good .fine i) (w .coherent .work i) (w .past .reads i)
 
 -- the state before turn t is where the first t turns end
 unfoldable pub cut : Job → ℕ → Job
@@ -146,13 +146,13 @@ own-blank r (sees x w k i j e) h u = absurd (omega arith)
 own-blank r (seesNone x t k i j e) h u = absurd (omega arith)
 own-blank r (says y) h u = absurd (says-code y h)
 
-step-blanks : (ops : List Op) (s : State) (i : ℕ) → Good ops s → Tidy ops s → Blanks s → Blanks (step ops s i)
+step-blanks : (ops : List Op) (s : State) (i : ℕ) → Good ops s → Coherent ops s → Blanks s → Blanks (step ops s i)
 unfolding rowOf
-step-blanks ops s i good tidy h =
+step-blanks ops s i good coherent h =
     step-case Blanks ops s i h
     (λ lt e.
     row-after s i (turn s (getD ops i noOp) (stageOf s i)) lt (λ j r. r .code ≡ notYet → Unanswered r)
-    (λ z. let w = own-blank (rowOf s i) (i-does ops s i good tidy .own) z (h i) in record { charge = w .0; moment = w .1 })
+    (λ z. let w = own-blank (rowOf s i) (i-does ops s i good coherent .own) z (h i) in record { charge = w .0; moment = w .1 })
     (λ j n. h j))
 
 start-blanks : (f : File) (m : ℕ) → Blanks (start f m)
@@ -164,7 +164,7 @@ blanks : (j : Job) → FileOk (j .file) → (t : ℕ) → t ≤ length (j .turns
 blanks j ok zero l = rw (stateAt-zero j) (start-blanks _ _)
 blanks j ok (suc t) l =
     let w = whole j ok t (omega arith) in
-    rw (stateAt-suc j t l) (step-blanks (j .ops) _ (who j t) (w .good) (w .tidy) (blanks j ok t (omega arith)))
+    rw (stateAt-suc j t l) (step-blanks (j .ops) _ (who j t) (w .good) (w .coherent) (blanks j ok t (omega arith)))
 
 module _ (j : Job) (ok : FileOk (j .file)) (i t : ℕ) (l : t ≤ length (j .turns)) where
   -- the row of operation i before turn t

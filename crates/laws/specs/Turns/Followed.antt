@@ -15,8 +15,8 @@ use Rattle.spec.specs.Proper.{FileOk}
 use Rattle.spec.specs.Claims.{stateAt}
 use Rattle.laws.specs.Turns.Rows.{stage-after, step-case, first-row}
 use Rattle.laws.specs.Turns.Good.{Good}
-use Rattle.laws.specs.Turns.Does.{Tidy, Starts}
-use Rattle.laws.specs.Turns.Tidy.{i-does}
+use Rattle.laws.specs.Turns.Does.{Coherent, Starts}
+use Rattle.laws.specs.Turns.Coherent.{i-does}
 use Rattle.laws.specs.Turns.Settled.{Settled}
 use Rattle.laws.specs.Turns.Reads.{Reading}
 use Rattle.laws.specs.Turns.States.{who, stateAt-suc, stateAt-zero}
@@ -66,10 +66,10 @@ tick-followed : (ops : List Op) (s : State) → Followed ops s → Followed ops 
 unfolding stageOf rowOf
 tick-followed ops s h = record { page = h .page }
 
-step-followed : (ops : List Op) (s : State) (i : ℕ) → Good ops s → Tidy ops s → Settled ops s → Rising s → Followed ops s → Followed ops (step ops s i)
-step-followed ops s i good tidy settled r h =
+step-followed : (ops : List Op) (s : State) (i : ℕ) → Good ops s → Coherent ops s → Settled ops s → Rising s → Followed ops s → Followed ops (step ops s i)
+step-followed ops s i good coherent settled r h =
     step-case (Followed ops) ops s i (tick-followed ops s h)
-    (λ lt e. act-followed ops s i _ good (i-writes ops s i good tidy settled) r lt (i-does ops s i good tidy .starts) h)
+    (λ lt e. act-followed ops s i _ good (i-writes ops s i good coherent settled) r lt (i-does ops s i good coherent .starts) h)
 
 start-followed : (ops : List Op) (f : File) (m : ℕ) → Followed ops (start f m)
 unfolding start stageOf rowOf
@@ -81,4 +81,4 @@ followed j ok zero l = rw (stateAt-zero j) (start-followed (j .ops) _ _)
 followed j ok (suc t) l =
     let w = whole j ok t (omega arith) in
     rw (stateAt-suc j t l)
-    (step-followed (j .ops) _ (who j t) (w .good) (w .tidy) (w .settled) (rising j ok t (omega arith)) (followed j ok t (omega arith)))
+    (step-followed (j .ops) _ (who j t) (w .good) (w .coherent) (w .settled) (rising j ok t (omega arith)) (followed j ok t (omega arith)))

@@ -22,8 +22,8 @@ use Rattle.laws.specs.Turns.Rows.{row-after, stage-after, step-case, fir
 use Rattle.laws.specs.Turns.Good.{Fine, Good}
 use Rattle.laws.specs.Turns.Lookup.{lookup, lookup-at}
 use Rattle.laws.specs.Turns.Says.{Says, isFound, isNone, Changes}
-use Rattle.laws.specs.Turns.Does.{Own, quiet, sees, seesNone, says, Tidy, Unreached, fresh, Starts, Does}
-use Rattle.laws.specs.Turns.Tidy.{i-does}
+use Rattle.laws.specs.Turns.Does.{Own, quiet, sees, seesNone, says, Coherent, Unreached, fresh, Starts, Does}
+use Rattle.laws.specs.Turns.Coherent.{i-does}
 use Rattle.laws.specs.Turns.Reads.{Reads, Reading, reading, rereading, unreached-entry, reads-after, own-reads}
 
 -- an answer that a turn gives fits the history H: it is right at its moment t; if it changes what is held, its moment is now
@@ -107,7 +107,7 @@ module _ (H : ℕ → ℕ → Option Rec) (W F : ℕ → ℕ) (ops : List Op) (s
       (begun : F i ≤ s .now)
       (lt : i < length (s .rows))
       (good : Good ops s)
-      (tidy : Tidy ops s)
+      (coherent : Coherent ops s)
       (past : Past H W F ops s)
     where
       own-right
@@ -126,7 +126,7 @@ module _ (H : ℕ → ℕ → Option Rec) (W F : ℕ → ℕ) (ops : List Op) (s
           (λ r.
           stage-after s i m lt (λ b st. Unreached st p → ⊥) (λ u. not-both r u)
           (λ b e u.
-          ⊎-elim (λ q. unreached-entry (s .file) _ _ (tidy .work b) u q) (λ q. past .unread i b p q u)
+          ⊎-elim (λ q. unreached-entry (s .file) _ _ (coherent .work b) u q) (λ q. past .unread i b p q u)
           (new-reader s _ (stageOf s i) (d .starts) r))
           b)
           (λ a e r.
@@ -143,7 +143,7 @@ module _ (H : ℕ → ℕ → Option Rec) (W F : ℕ → ℕ) (ops : List Op) (s
           record {
             reads =
                 stage-after s i m lt (λ j st. Reads H (F j) (act s i m) (getD ops j noOp) st)
-                (own-reads H ops s i m before after d (F i) (m .stage) tidy (past .reads i) (d .starts) (d .work) begun)
+                (own-reads H ops s i m before after d (F i) (m .stage) coherent (past .reads i) (d .starts) (d .work) begun)
                 (λ j e. reads-after H ops s i m before after d (F j) _ (stageOf s j) (λ p. past .unread j i p) (past .reads j));
             unread = unread-after;
             right =
@@ -177,12 +177,12 @@ module _ (H : ℕ → ℕ → Option Rec) (W F : ℕ → ℕ) (ops : List Op) (s
       → W (s .now) ≡ i
       → F i ≤ s .now
       → Good ops s
-      → Tidy ops s
+      → Coherent ops s
       → Past H W F ops s
       → Past H W F ops (step ops s i)
-  step-past before after mine begun good tidy past =
+  step-past before after mine begun good coherent past =
       step-case (λ t. ((k : ℕ) → H (suc (s .now)) k ≡ lookup (t .file) k) → Past H W F ops t) ops s i (λ a. tick-past past)
-      (λ lt e a. act-past _ before a (i-does ops s i good tidy) mine begun lt good tidy past)
+      (λ lt e a. act-past _ before a (i-does ops s i good coherent) mine begun lt good coherent past)
       after
 
 pub start-past : (H : ℕ → ℕ → Option Rec) (W F : ℕ → ℕ) (ops : List Op) (f : File) (m : ℕ) → Past H W F ops (start f m)

@@ -30,7 +30,7 @@ use Rattle.laws.specs.Turns.Plans.{goes-any, entries-case}
 use Rattle.laws.specs.Turns.Good.{Fine, Good}
 use Rattle.laws.specs.Turns.Work.{Plan, Work}
 use Rattle.laws.specs.Turns.SplitPlan.{made, serves, stays-old, old-stays, goes-new}
-use Rattle.laws.specs.Turns.Does.{Tidy}
+use Rattle.laws.specs.Turns.Does.{Coherent}
 use Rattle.laws.specs.Turns.Owned.{OwnsFrom}
 use Rattle.laws.specs.Turns.Settled.{Settled}
 use Rattle.laws.specs.Turns.Depths.{Lowest, plan-low, plan-deeper}
@@ -186,7 +186,7 @@ module _ (f : File) (op : Op) (x : ℕ) (fit : Fit f) (ok : PageOk (f .g) (f .c)
   entries-next b j l named = entries-at b (suc j) (suc j) (omega arith) (omega arith) (λ e i u. i) (λ e i u. named e i)
 
 -- operation i of a run splits page x
-module _ (ops : List Op) (s : State) (i x b n : ℕ) (good : Good ops s) (tidy : Tidy ops s) (settled : Settled ops s) where
+module _ (ops : List Op) (s : State) (i x b n : ℕ) (good : Good ops s) (coherent : Coherent ops s) (settled : Settled ops s) where
   abbrev f : File
   f = s .file
 
@@ -204,18 +204,18 @@ module _ (ops : List Op) (s : State) (i x b n : ℕ) (good : Good ops s) (tidy :
       → e < goesBelow f x
       → entryAt f e ≡ x
   still-named j pl h e q l u =
-      let t = interval-end f op x (good .fit) (tidy .pages x) pl in
+      let t = interval-end f op x (good .fit) (coherent .pages x) pl in
       let k = index-onto (f .g) e (fit-32 f (good .fit)) (omega arith) in
-      let v = interval-in f op x (good .fit) (tidy .pages x) pl (k .0) (rw (k .1) l) (rw (k .1) u) in
+      let v = interval-in f op x (good .fit) (coherent .pages x) pl (k .0) (rw (k .1) l) (rw (k .1) u) in
       rw (k .1) at (h .later (k .0) v (rw (k .1) q))
 
   -- when the last new page is written, and before, the first entry to be written is the interval's first
   pub split-first : (m : ℕ) → stageOf s i ≡ Split x b n (WriteNew m) → entriesFrom f op x b 0 ≡ WriteEntry (goesFrom f op x)
   split-first m e =
       let fi : Fine f op (Split x b n (WriteNew m)) = rw e at (good .fine i) in
-      let w : Work f op (Split x b n (WriteNew m)) = rw e at (tidy .work i) in
+      let w : Work f op (Split x b n (WriteNew m)) = rw e at (coherent .work i) in
       let h : OwnsFrom f op x b 0 = rw e at (settled .owns i) in
-      entries-first f op x (good .fit) (tidy .pages x) (w .0) b (omega (arith, fi .0 .count))
+      entries-first f op x (good .fit) (coherent .pages x) (w .0) b (omega (arith, fi .0 .count))
       (λ e l u. still-named 0 (w .0) h e (omega arith) l u)
 
   -- the entry that is written is of the interval, and names the page; after it the next of the interval is written, or the new pages are unlocked
@@ -228,12 +228,12 @@ module _ (ops : List Op) (s : State) (i x b n : ℕ) (good : Good ops s) (tidy :
       × (entriesFrom f op x b (suc j) ≡ if (ltb (suc j) (goesBelow f x)) (WriteEntry (suc j)) UnlockNew)
   split-next j e =
       let fi : Fine f op (Split x b n (WriteEntry j)) = rw e at (good .fine i) in
-      let w : Work f op (Split x b n (WriteEntry j)) = rw e at (tidy .work i) in
+      let w : Work f op (Split x b n (WriteEntry j)) = rw e at (coherent .work i) in
       let h : OwnsFrom f op x b j = rw e at (settled .owns i) in
-      let r = goes-in f op x (good .fit) (tidy .pages x) (w .0) b j (w .1 .2) (fi .1) in (
+      let r = goes-in f op x (good .fit) (coherent .pages x) (w .0) b j (w .1 .2) (fi .1) in (
         r .0,
         r .1,
         w .1 .1,
-        entries-next f op x (good .fit) (tidy .pages x) (w .0) b j (r .0)
+        entries-next f op x (good .fit) (coherent .pages x) (w .0) b j (r .0)
             (λ e l u. still-named j (w .0) h e (omega arith) (omega (arith, r .0)) u),
       )

@@ -36,7 +36,7 @@ use Rattle.laws.specs.Turns.Good.{Planned, FinePart, Fine, Good, page-lt
 use Rattle.laws.specs.Turns.Work.{Plan, WorkTask, WorkPart, Work}
 use Rattle.laws.specs.Turns.Lookup.{page-not, page-dir, page-same, entry-not, entry-page, entry-same}
 use Rattle.laws.specs.Turns.SplitPlan.{serves, old-stays, new-goes}
-use Rattle.laws.specs.Turns.Does.{Tidy}
+use Rattle.laws.specs.Turns.Does.{Coherent}
 use Rattle.laws.specs.Turns.Owned.{BusyTask, Busy, Owned, OwnsFrom, OwnsTask, OwnsPart, Owns, stay-after, Keeps}
 
 kept-page : (f : File) (st : Stage) (a n x : ℕ) → pageAt (fileAfter (goLock st a n false 0) f) x ≡ pageAt f x
@@ -47,7 +47,7 @@ kept-dir : (f : File) (st : Stage) (a n e : ℕ) → entryAt (fileAfter (goLock 
 unfolding entryAt directoryAfter
 kept-dir f st a n e = refl
 
-module _ (ops : List Op) (s : State) (op : Op) (good : Good ops s) (tidy : Tidy ops s) where
+module _ (ops : List Op) (s : State) (op : Op) (good : Good ops s) (coherent : Coherent ops s) where
   abbrev f : File
   f = s .file
 
@@ -140,7 +140,7 @@ module _ (ops : List Op) (s : State) (op : Op) (good : Good ops s) (tidy : Tidy 
     old-keeps w h =
         put x _ (nu .1) tt (λ p e n b. e b)
         (λ o n p k i.
-        h k (first (serves f op x (good .fit) (tidy .pages x) pl) .inside k i) (old-stays f op x (good .fit) (tidy .pages x) pl k i))
+        h k (first (serves f op x (good .fit) (coherent .pages x) pl) .inside k i) (old-stays f op x (good .fit) (coherent .pages x) pl k i))
 
     entries-own
         : (m : Move) (b j : ℕ)
@@ -263,7 +263,7 @@ module _ (ops : List Op) (s : State) (op : Op) (good : Good ops s) (tidy : Tidy 
             let e : suc b + (z - suc b) ≡ z = omega arith in
             let pgz : pageAt f z ≡ getD (planOf f op x .news) (z - suc b) zeroPage = ap (pageAt f) (sym e) ∙ w .0 (z - suc b) (omega arith) in
             let i' : In (getD (planOf f op x .news) (z - suc b) zeroPage) k = rw pgz at i in
-            let g = new-goes f op x (good .fit) (tidy .pages x) pl b n k (z - suc b) (pn .count) (omega arith) i' in
+            let g = new-goes f op x (good .fit) (coherent .pages x) pl b n k (z - suc b) (pn .count) (omega arith) i' in
             h .moved k (g .1) (index-in f (good .fit) k) (λ q. omega (arith, g .0)) ∙ g .0 ∙ e
 
   held-keeps

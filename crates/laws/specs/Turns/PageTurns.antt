@@ -34,9 +34,9 @@ use Rattle.laws.specs.Turns.Good.{Good, page-lt}
 use Rattle.laws.specs.Turns.Work.{WorkTask, Work}
 use Rattle.laws.specs.Turns.Lookup.{lookup, lookup-at, page-not, page-same, page-home, page-lookup, page-own}
 use Rattle.laws.specs.Turns.Says.{isStored, isThere, isDeleted, isAbsent, isNoDepth, isNoPage}
-use Rattle.laws.specs.Turns.Does.{Own, quiet, sees, says, Tidy, Starts, Sub, Does}
+use Rattle.laws.specs.Turns.Does.{Own, quiet, sees, says, Coherent, Starts, Sub, Does}
 
-module _ (ops : List Op) (s : State) (op : Op) (good : Good ops s) (tidy : Tidy ops s) where
+module _ (ops : List Op) (s : State) (op : Op) (good : Good ops s) (coherent : Coherent ops s) where
   abbrev f : File
   f = s .file
 
@@ -58,8 +58,8 @@ module _ (ops : List Op) (s : State) (op : Op) (good : Good ops s) (tidy : Tidy 
         rises = tt;
         sub = tt;
         starts = z;
-        pages = tidy .pages;
-        home = tidy .home;
+        pages = coherent .pages;
+        home = coherent .home;
         work = w;
         others = λ k n. refl;
         own = o;
@@ -109,7 +109,7 @@ module _ (ops : List Op) (s : State) (op : Op) (good : Good ops s) (tidy : Tidy 
         sub = sub;
         starts = z;
         pages = all;
-        home = λ k. page-home f y q lt (λ p. In p k) k (tidy .home k) (cov k);
+        home = λ k. page-home f y q lt (λ p. In p k) k (coherent .home k) (cov k);
         work = w;
         others = λ k n. page-lookup f y q lt k (oth k n);
         own = own;
@@ -120,7 +120,7 @@ module _ (ops : List Op) (s : State) (op : Op) (good : Good ops s) (tidy : Tidy 
 
       all : (x : ℕ) → PageOk (f .g) (f .c) (pageAt (fileAfter (goPage to a y q) f) x)
       all x =
-          by-cases (ℕ-discrete x y) (λ (e : x ≡ y). rw (e, page-same f y q lt) ok) (λ e. rw (page-not f y q x e) (tidy .pages x))
+          by-cases (ℕ-discrete x y) (λ (e : x ≡ y). rw (e, page-same f y q lt) ok) (λ e. rw (page-not f y q x e) (coherent .pages x))
 
   -- the operation holds x, which its entry names
   module _ (x : ℕ) (at : entryAt f (homeOf f op) ≡ x) where
@@ -130,7 +130,7 @@ module _ (ops : List Op) (s : State) (op : Op) (good : Good ops s) (tidy : Tidy 
 
     mine : In (pageAt f x) (op .call)
     unfolding homeOf
-    mine = rw at at (tidy .home (op .call))
+    mine = rw at at (coherent .home (op .call))
 
     placed-does : op .kind ≡ Insert → findIn (pageAt f x .records) (op .call) ≡ none → D (Held x Decide) (placed s op x (pageAt f x))
     unfolding placed homeOf entryAt pageAt tableAfter directoryAfter
@@ -161,7 +161,7 @@ module _ (ops : List Op) (s : State) (op : Op) (good : Good ops s) (tidy : Tidy 
     decided-does Delete (some r) e h = calm (at, λ k. absurd (not-both k e), λ k. (r, h)) (quiet refl) tt
 
     in-x : (k : ℕ) → entryAt f (index (f .g) k) ≡ x → In (pageAt f x) k
-    in-x k e = rw e at (tidy .home k)
+    in-x k e = rw e at (coherent .home k)
 
     pub written-does
         : (k : Kind)
@@ -173,7 +173,7 @@ module _ (ops : List Op) (s : State) (op : Op) (good : Good ops s) (tidy : Tidy 
     written-does Search e l w = calm tt (quiet refl) tt
     written-does Insert e l w =
         let h = w .1 e in
-        put x _ (l .1) (added-ok (f .g) (f .c) (pageAt f x) (recOf op) (tidy .pages x) mine (h .1) (h .0)) in-x
+        put x _ (l .1) (added-ok (f .g) (f .c) (pageAt f x) (recOf op) (coherent .pages x) mine (h .1) (h .0)) in-x
         (λ k n d. put-other (pageAt f x .records) (recOf op) k n)
         (says (isStored e (here ∙ h .0)
         (page-own f x _ (page-lt f (good .fit) x (l .1)) (op .call) at ∙ put-own (pageAt f x .records) (recOf op) (h .0))))
@@ -182,7 +182,7 @@ module _ (ops : List Op) (s : State) (op : Op) (good : Good ops s) (tidy : Tidy 
         tt
     written-does Delete e l w =
         let h = w .2 e in
-        put x _ (l .1) (cleared-ok (f .g) (f .c) (pageAt f x) (op .call) (tidy .pages x)) in-x
+        put x _ (l .1) (cleared-ok (f .g) (f .c) (pageAt f x) (op .call) (coherent .pages x)) in-x
         (λ k n d. without-other (pageAt f x .records) (op .call) k n)
         (rw (h .1)
         (says (isDeleted (h .0) e (here ∙ h .1)

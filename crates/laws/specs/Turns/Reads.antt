@@ -26,7 +26,7 @@ use Rattle.laws.specs.Tools.{if-case, if-true, and-left, and-right}
 use Rattle.laws.specs.Turns.Work.{Work}
 use Rattle.laws.specs.Turns.Lookup.{lookup, lookup-at}
 use Rattle.laws.specs.Turns.Says.{says-change}
-use Rattle.laws.specs.Turns.Does.{Own, quiet, sees, seesNone, says, Tidy, Unreached, fresh, Starts, Sub, Rises, Does}
+use Rattle.laws.specs.Turns.Does.{Own, quiet, sees, seesNone, says, Coherent, Unreached, fresh, Starts, Sub, Rises, Does}
 
 -- H t k: what the file held of call k before turn t. A record was seen at t: it was held before turn t and after it, and t is not before lo
 module _ (H : ℕ → ℕ → Option Rec) (lo : ℕ) where
@@ -217,17 +217,17 @@ module _ (H : ℕ → ℕ → Option Rec) (ops : List Op) (s : State) (i : ℕ) 
     -- the reading of the operation itself, where its turn has brought it to a search's stage
     pub own-reads
         : (to : Stage)
-        → Tidy ops s
+        → Coherent ops s
         → Reads H lo s (getD ops i noOp) (stageOf s i)
         → Starts s (getD ops i noOp) (stageOf s i) to
         → Work (fileAfter m f) (getD ops i noOp) to
         → lo ≤ s .now
         → Reads H lo (act s i m) (getD ops i noOp) to
     unfolding homeOf
-    own-reads NotBegun tidy h z w g = tt
-    own-reads (ReadPage y) tidy h z w g =
-        page-after (getD ops i noOp) y (λ v. unreached-entry f _ _ (tidy .work i) v z) (omega arith, λ r e n. absurd (n z), g)
-    own-reads (Reread x t) tidy h z w g =
+    own-reads NotBegun coherent h z w g = tt
+    own-reads (ReadPage y) coherent h z w g =
+        page-after (getD ops i noOp) y (λ v. unreached-entry f _ _ (coherent .work i) v z) (omega arith, λ r e n. absurd (n z), g)
+    own-reads (Reread x t) coherent h z w g =
         let h' : Reads H lo s (getD ops i noOp) (ReadPage x) = rw (z .0) at h in
         let l = rise (homeOf f (getD ops i noOp)) in (
           omega (arith, h' .0),
@@ -239,7 +239,7 @@ module _ (H : ℕ → ℕ → Option Rec) (ops : List Op) (s : State) (i : ℕ) 
               ),
           rw (z .1) g,
         )
-    own-reads (Lock x) tidy h z w g = tt
-    own-reads (Held x t) tidy h z w g = tt
-    own-reads (Split x b n q) tidy h z w g = tt
-    own-reads Done tidy h z w g = tt
+    own-reads (Lock x) coherent h z w g = tt
+    own-reads (Held x t) coherent h z w g = tt
+    own-reads (Split x b n q) coherent h z w g = tt
+    own-reads Done coherent h z w g = tt

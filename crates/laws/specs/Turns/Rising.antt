@@ -27,8 +27,8 @@ use Rattle.spec.specs.Claims.{stateAt}
 use Rattle.laws.specs.Tools.{if-true, if-false}
 use Rattle.laws.specs.Turns.Rows.{stage-after, step-case}
 use Rattle.laws.specs.Turns.Good.{Good}
-use Rattle.laws.specs.Turns.Does.{Tidy, Unreached, Does}
-use Rattle.laws.specs.Turns.Tidy.{i-does}
+use Rattle.laws.specs.Turns.Does.{Coherent, Unreached, Does}
+use Rattle.laws.specs.Turns.Coherent.{i-does}
 use Rattle.laws.specs.Turns.Settled.{Settled}
 use Rattle.laws.specs.Turns.Reads.{unreached-entry}
 use Rattle.laws.specs.Turns.States.{who, stateAt-suc, stateAt-zero}
@@ -171,7 +171,7 @@ pub record LeftNow (s : State) (st : Stage) (f' : File) (c : List Change) (e x :
 module _ (ops : List Op) (s : State) (i : ℕ) (m : Move)
     (lt : i < length (s .rows))
     (good : Good ops s)
-    (tidy : Tidy ops s)
+    (coherent : Coherent ops s)
     (d : Does s (getD ops i noOp) (stageOf s i) m)
     (w : Writes (s .file) (stageOf s i) m)
     (h : Rising s)
@@ -193,7 +193,7 @@ module _ (ops : List Op) (s : State) (i : ℕ) (m : Move)
 
     -- no entry names a page of a split that is not reached yet
     named : (j e x : ℕ) → entryAt f e ≡ x → Unreached (stageOf s j) x → ⊥
-    named j e x z u = unreached-entry f _ e (tidy .work j) u z
+    named j e x z u = unreached-entry f _ e (coherent .work j) u z
 
     in-use : (e : ℕ) → e < 2 ^ f .g → entryAt f e ≤ f .used
     unfolding entryAt
@@ -285,10 +285,10 @@ tick-rising : (s : State) → Rising s → Rising (tick s)
 unfolding stageOf rowOf
 tick-rising s h = record { within = h .within; higher = h .higher; deeper = h .deeper; reached = h .reached }
 
-step-rising : (ops : List Op) (s : State) (i : ℕ) → Good ops s → Tidy ops s → Settled ops s → Rising s → Rising (step ops s i)
-step-rising ops s i good tidy settled h =
+step-rising : (ops : List Op) (s : State) (i : ℕ) → Good ops s → Coherent ops s → Settled ops s → Rising s → Rising (step ops s i)
+step-rising ops s i good coherent settled h =
     step-case Rising ops s i (tick-rising s h)
-    (λ lt e. act-rising ops s i _ lt good tidy (i-does ops s i good tidy) (i-writes ops s i good tidy settled) h)
+    (λ lt e. act-rising ops s i _ lt good coherent (i-does ops s i good coherent) (i-writes ops s i good coherent settled) h)
 
 start-rising : (f : File) (m : ℕ) → Rising (start f m)
 unfolding start left
@@ -304,22 +304,22 @@ pub rising : (j : Job) → FileOk (j .file) → (t : ℕ) → t ≤ length (j .t
 rising j ok zero l = rw (stateAt-zero j) (start-rising _ _)
 rising j ok (suc t) l =
     let w = whole j ok t (omega arith) in
-    rw (stateAt-suc j t l) (step-rising (j .ops) _ (who j t) (w .good) (w .tidy) (w .settled) (rising j ok t (omega arith)))
+    rw (stateAt-suc j t l) (step-rising (j .ops) _ (who j t) (w .good) (w .coherent) (w .settled) (rising j ok t (omega arith)))
 
 -- entries only rise
 step-entry
     : (ops : List Op) (s : State) (i : ℕ)
     → Good ops s
-    → Tidy ops s
+    → Coherent ops s
     → Settled ops s
     → (e : ℕ)
     → entryAt (s .file) e ≤ entryAt (step ops s i .file) e
 unfolding entryAt
-step-entry ops s i good tidy settled e =
+step-entry ops s i good coherent settled e =
     step-case (λ t. entryAt (s .file) e ≤ entryAt (t .file) e) ops s i (le-refl _)
     (λ lt z.
     ⊎-elim (λ a. omega (arith, a .names)) (λ a. omega (arith, a .up))
-    (entry-after s e (stageOf s i) _ (good .fit) (i-writes ops s i good tidy settled .entry)))
+    (entry-after s e (stageOf s i) _ (good .fit) (i-writes ops s i good coherent settled .entry)))
 
 rise-for
     : (j : Job)
@@ -332,7 +332,7 @@ rise-for j ok t (suc d) e l =
     let w = whole j ok (t + d) (omega arith) in
     let z : t + suc d ≡ suc (t + d) = omega arith in
     let ih = rise-for j ok t d e (omega arith) in
-    let up = step-entry (j .ops) _ (who j (t + d)) (w .good) (w .tidy) (w .settled) e in
+    let up = step-entry (j .ops) _ (who j (t + d)) (w .good) (w .coherent) (w .settled) e in
     rw (z, stateAt-suc j (t + d) (omega arith)) (omega arith)
 
 pub entries-rise

@@ -18,8 +18,8 @@ use Rattle.laws.specs.Turns.Locks.{Holds}
 use Rattle.laws.specs.Turns.Good.{MayPage, Good, page-other, held-no}
 use Rattle.laws.specs.Turns.Legal.{i-legal}
 use Rattle.laws.specs.Turns.Work.{MayTurn, leaves-other}
-use Rattle.laws.specs.Turns.Does.{Tidy}
-use Rattle.laws.specs.Turns.Tidy.{i-does}
+use Rattle.laws.specs.Turns.Does.{Coherent}
+use Rattle.laws.specs.Turns.Coherent.{i-does}
 use Rattle.laws.specs.Turns.Owned.{Busy, busy-holds, Owned, Owns, owns-after, Keeps}
 use Rattle.laws.specs.Turns.OwnedTurns.{turn-keeps}
 
@@ -62,12 +62,12 @@ tick-settled : (ops : List Op) (s : State) → Settled ops s → Settled ops (ti
 unfolding stageOf rowOf
 tick-settled ops s t = record { owner = t .owner; owns = t .owns; unused = t .unused }
 
-pub step-settled : (ops : List Op) (s : State) (i : ℕ) → Good ops s → Tidy ops s → Settled ops s → Settled ops (step ops s i)
-step-settled ops s i good tidy t =
+pub step-settled : (ops : List Op) (s : State) (i : ℕ) → Good ops s → Coherent ops s → Settled ops s → Settled ops (step ops s i)
+step-settled ops s i good coherent t =
     step-case (Settled ops) ops s i (tick-settled ops s t)
     (λ lt e.
-    act-settled ops s i _ lt good t (i-legal ops s i good e .page) (i-does ops s i good tidy .turns)
-    (turn-keeps ops s (getD ops i noOp) good tidy (stageOf s i) (good .fine i) (tidy .work i) mine (t .owns i)))
+    act-settled ops s i _ lt good t (i-legal ops s i good e .page) (i-does ops s i good coherent .turns)
+    (turn-keeps ops s (getD ops i noOp) good coherent (stageOf s i) (good .fine i) (coherent .work i) mine (t .owns i)))
   where
     mine : (x : ℕ) → Holds (stageOf s i) x → (Busy (stageOf s i) x → ⊥) → Owned (s .file) x
     mine x h n =

@@ -31,8 +31,8 @@ use Rattle.laws.specs.Turns.Rows.{moves-row}
 use Rattle.laws.specs.Turns.Good.{Fine, Good}
 use Rattle.laws.specs.Turns.Work.{Work}
 use Rattle.laws.specs.Turns.SplitPlan.{goes-new}
-use Rattle.laws.specs.Turns.Does.{Tidy}
-use Rattle.laws.specs.Turns.Tidy.{i-does}
+use Rattle.laws.specs.Turns.Does.{Coherent}
+use Rattle.laws.specs.Turns.Coherent.{i-does}
 use Rattle.laws.specs.Turns.Settled.{Settled}
 use Rattle.laws.specs.Turns.Reads.{reading}
 use Rattle.laws.specs.Turns.Depths.{plan-most}
@@ -103,7 +103,7 @@ slot-idle s st slot e d u = slot-other s st slot e d (λ x b n z v. false≢true
 -- a turn of operation i
 module _ (ops : List Op) (s : State) (i : ℕ) (slot : Table)
     (good : Good ops s)
-    (tidy : Tidy ops s)
+    (coherent : Coherent ops s)
     (settled : Settled ops s)
     (r : Rising s)
     (h : Slots slot s)
@@ -112,7 +112,7 @@ module _ (ops : List Op) (s : State) (i : ℕ) (slot : Table)
     m = turn s (getD ops i noOp) (stageOf s i)
 
     named : (e x b n : ℕ) → stageOf s i ≡ Split x b n (WriteEntry e) → entryAt (s .file) e ≡ x
-    named e x b n q = let w : Work (s .file) (getD ops i noOp) (Split x b n (WriteEntry e)) = rw q at (tidy .work i) in w .1 .1
+    named e x b n q = let w : Work (s .file) (getD ops i noOp) (Split x b n (WriteEntry e)) = rw q at (coherent .work i) in w .1 .1
 
     act-slots : i < length (s .rows) → Slots (slotAfter s (stageOf s i) slot) (act s i m)
     act-slots lt =
@@ -126,7 +126,7 @@ module _ (ops : List Op) (s : State) (i : ℕ) (slot : Table)
               (λ y c n q v. let w = ap (λ p. pageAt (s .file) p .depth) (named e y c n q) in omega arith)
               ∙ h .turn e x (a .left) (a .begun)))
               (λ a. rw (a .depth, a .turn) (slot-own s (stageOf s i) slot e x _ _ (a .stage .2)))
-              (left-case ops s i m lt good tidy (i-does ops s i good tidy) (i-writes ops s i good tidy settled) r e x k b);
+              (left-case ops s i m lt good coherent (i-does ops s i good coherent) (i-writes ops s i good coherent settled) r e x k b);
         }
 
     pub step-slots : Slots (slotAfter s (stageOf s i) slot) (step ops s i)
@@ -159,7 +159,7 @@ slots-same slot slot' s ok r a h =
 -- a search that finds its call in page x
 module _ (ops : List Op) (s : State) (i x : ℕ) (r : Rec) (slot : Table)
     (good : Good ops s)
-    (tidy : Tidy ops s)
+    (coherent : Coherent ops s)
     (up : Rising s)
     (follows : Followed ops s)
     (h : Slots slot s)
@@ -175,8 +175,8 @@ module _ (ops : List Op) (s : State) (i x : ℕ) (r : Rec) (slot : Table)
     begun : BeginsAt f (pageAt f x) (homeOf f op)
     unfolding homeOf
     begun =
-        in-begins (f .g) (pageAt f x) (op .call) (tidy .pages x .deep) (fit-32 f (good .fit))
-        (found-in (pageAt f x) (op .call) r (tidy .pages x .homed) found)
+        in-begins (f .g) (pageAt f x) (op .call) (coherent .pages x .deep) (fit-32 f (good .fit))
+        (found-in (pageAt f x) (op .call) r (coherent .pages x .homed) found)
 
     -- where its entry names another page, the turn on which the entry was changed from page x is in the table, at a depth below the directory's
     pub found-slot
@@ -187,7 +187,7 @@ module _ (ops : List Op) (s : State) (i x : ℕ) (r : Rec) (slot : Table)
         ⊎-elim (λ q. absurd (n q))
         (λ q.
         let z = up .deeper _ x q begun in
-        (sym (h .turn _ x q begun), omega (arith, tidy .pages (entryAt f (homeOf f op)) .deep)))
+        (sym (h .turn _ x q begun), omega (arith, coherent .pages (entryAt f (homeOf f op)) .deep)))
         (follows .page i x (rw reads reading))
 
     -- so its moment is this turn's number, or the table's
@@ -199,12 +199,12 @@ module _ (ops : List Op) (s : State) (i x : ℕ) (r : Rec) (slot : Table)
 pub entry-slot
     : (ops : List Op) (s : State) (i x b n j : ℕ)
     → Good ops s
-    → Tidy ops s
+    → Coherent ops s
     → stageOf s i ≡ Split x b n (WriteEntry j)
     → pageAt (s .file) x .depth < s .file .g
-entry-slot ops s i x b n j good tidy e =
+entry-slot ops s i x b n j good coherent e =
     let fi : Fine (s .file) (getD ops i noOp) (Split x b n (WriteEntry j)) = rw e at (good .fine i) in
-    let w : Work (s .file) (getD ops i noOp) (Split x b n (WriteEntry j)) = rw e at (tidy .work i) in
-    let o = goes-new (s .file) (getD ops i noOp) x (good .fit) (tidy .pages x) (w .0) b n j (fi .0 .count) (fi .1) in
-    let most = plan-most (s .file) (getD ops i noOp) x (good .fit) (tidy .pages x) (w .0) in
+    let w : Work (s .file) (getD ops i noOp) (Split x b n (WriteEntry j)) = rw e at (coherent .work i) in
+    let o = goes-new (s .file) (getD ops i noOp) x (good .fit) (coherent .pages x) (w .0) b n j (fi .0 .count) (fi .1) in
+    let most = plan-most (s .file) (getD ops i noOp) x (good .fit) (coherent .pages x) (w .0) in
     omega (arith, o .1, fi .0 .count)

@@ -34,10 +34,10 @@ use Rattle.laws.specs.Turns.Work.{Plan, Moving, Written, WorkPart, plan-
 use Rattle.laws.specs.Turns.Lookup.{lookup, lookup-at, page-not, page-dir, page-same, page-lookup, page-own, entry-not, entry-page, entry-same, entry-home, entry-lookup, entry-own}
 use Rattle.laws.specs.Turns.SplitPlan.{made, serves, stays-old, old-stays, goes-new}
 use Rattle.laws.specs.Turns.Says.{isStored}
-use Rattle.laws.specs.Turns.Does.{Own, quiet, says, Tidy, fresh, StartsPart, Does}
+use Rattle.laws.specs.Turns.Does.{Own, quiet, says, Coherent, fresh, StartsPart, Does}
 use Rattle.laws.specs.Turns.PageTurns.{calm, put}
 
-module _ (ops : List Op) (s : State) (op : Op) (good : Good ops s) (tidy : Tidy ops s) where
+module _ (ops : List Op) (s : State) (op : Op) (good : Good ops s) (coherent : Coherent ops s) where
   abbrev f : File
   f = s .file
 
@@ -51,15 +51,15 @@ module _ (ops : List Op) (s : State) (op : Op) (good : Good ops s) (tidy : Tidy 
   -- an operation that splits page x
   module _ (x : ℕ) (no : PageNo f x) (pl : Plan f op x) where
     plan-made : Each (Made (f .g) (f .c) (recOf op)) (planOf f op x .old ∷ planOf f op x .news)
-    plan-made = made f op x (good .fit) (tidy .pages x) pl
+    plan-made = made f op x (good .fit) (coherent .pages x) pl
 
     plan-serves : Each (Serves (pageAt f x) (recOf op)) (planOf f op x .old ∷ planOf f op x .news)
-    plan-serves = serves f op x (good .fit) (tidy .pages x) pl
+    plan-serves = serves f op x (good .fit) (coherent .pages x) pl
 
     pub old-does : Moving f op x (2 ^ f .g) → D (Held x WriteOld) (oldWritten s op x)
     unfolding oldWritten homeOf
     old-does mv =
-        put ops s op good tidy x _ (no .1) (first plan-made .ok) into (λ k n d. first plan-serves .kept k (into k d) n)
+        put ops s op good coherent x _ (no .1) (first plan-made .ok) into (λ k n d. first plan-serves .kept k (into k d) n)
         (if-case (Own s _ op (lookup f (op .call)) (lookup (fileAfter (goPage Done same x (planOf f op x .old)) f) (op .call)))
         (λ e.
         let d = mv .stays (eqb-true _ _ e) in
@@ -77,7 +77,7 @@ module _ (ops : List Op) (s : State) (op : Op) (good : Good ops s) (tidy : Tidy 
         stays k d = mv .settled _ (index-in f (good .fit) k) d
 
         into : (k : ℕ) → entryAt f (index (f .g) k) ≡ x → In (planOf f op x .old) k
-        into k d = stays-old f op x (good .fit) (tidy .pages x) pl k (rw d at (tidy .home k)) (stays k d)
+        into k d = stays-old f op x (good .fit) (coherent .pages x) pl k (rw d at (coherent .home k)) (stays k d)
 
         sub
             : (k : ℕ) (r : Rec)
@@ -86,7 +86,7 @@ module _ (ops : List Op) (s : State) (op : Op) (good : Good ops s) (tidy : Tidy 
             → findIn (pageAt f x .records) k ≡ some r
         sub k r u n =
             by-cases (ℕ-discrete k (op .call))
-            (λ (z : k ≡ op .call). absurd (n (rw z (mv .stays (rw z at (old-stays f op x (good .fit) (tidy .pages x) pl k i))))))
+            (λ (z : k ≡ op .call). absurd (n (rw z (mv .stays (rw z at (old-stays f op x (good .fit) (coherent .pages x) pl k i))))))
             (λ z. sym (first plan-serves .kept k i z) ∙ u)
           where
             i : In (planOf f op x .old) k
@@ -130,7 +130,7 @@ module _ (ops : List Op) (s : State) (op : Op) (good : Good ops s) (tidy : Tidy 
         → D (Split x b n (WriteNew i)) (splitTurn s op x b n (WriteNew i))
     unfolding splitTurn homeOf newCount
     new-does b n i pn fi w =
-        put ops s op good tidy (b + i) q (omega (arith, pn .top)) (each-at _ (i - 1) zeroPage (omega (arith, pn .count)) (rest plan-made) .ok)
+        put ops s op good coherent (b + i) q (omega (arith, pn .top)) (each-at _ (i - 1) zeroPage (omega (arith, pn .count)) (rest plan-made) .ok)
         (λ k d. absurd (w .2 (index (f .g) k) (omega arith))) (λ k n d. absurd (w .2 (index (f .g) k) (omega arith)))
         (quiet (page-lookup f (b + i) q lt (op .call) (λ d. absurd (w .2 (homeOf f op) (omega arith)))))
         (inl (fresh (omega arith))) (
@@ -176,8 +176,8 @@ module _ (ops : List Op) (s : State) (op : Op) (good : Good ops s) (tidy : Tidy 
         record {
           single = inr refl;
           turns = (inl (w .1), inr (omega (arith, o .1, o .2)));
-          pages = λ z. rw (entry-page f j y z) (tidy .pages z);
-          home = λ k. entry-home f j y lt (λ p. In p k) k (tidy .home k) (λ e. rw pgy (o .3 k e));
+          pages = λ z. rw (entry-page f j y z) (coherent .pages z);
+          home = λ k. entry-home f j y lt (λ p. In p k) k (coherent .home k) (λ e. rw pgy (o .3 k e));
           work = (plan-after f m op x pg pl, entries-work m b n (suc j) pg wr dr st hm ah);
           others = λ k z. entry-lookup f j y lt k (λ e. finds k ∙ served .kept k (o .3 k e) z ∙ rw (w .1) refl);
           own =
@@ -202,7 +202,7 @@ module _ (ops : List Op) (s : State) (op : Op) (good : Good ops s) (tidy : Tidy 
         lt = omega (arith, good .fit .size, w .2)
 
         o : (i : ℕ) × (i < n) × (y ≡ suc b + i) × ((k : ℕ) → index (f .g) k ≡ j → In (getD (planOf f op x .news) i zeroPage) k)
-        o = goes-new f op x (good .fit) (tidy .pages x) pl b n j (pn .count) fi
+        o = goes-new f op x (good .fit) (coherent .pages x) pl b n j (pn .count) fi
 
         q : Page
         q = getD (planOf f op x .news) (o .0) zeroPage
@@ -246,4 +246,4 @@ module _ (ops : List Op) (s : State) (op : Op) (good : Good ops s) (tidy : Tidy 
     unfolding splitTurn pageAt entryAt tableAfter directoryAfter
     unlock-does b n w =
         let m = goLock Done 0 0 false 0 in
-        calm ops s op good tidy (plan-after f m op x refl pl, moving-after f m op x _ refl (λ e d. d) (λ e d. d) w) (quiet refl) tt
+        calm ops s op good coherent (plan-after f m op x refl pl, moving-after f m op x _ refl (λ e d. d) (λ e d. d) w) (quiet refl) tt

@@ -91,7 +91,7 @@ module _ (j : Job) (ok : FileOk (j .file)) where
       ap (λ (r : Replay). findIn (r .list) k) fed-all ∙ replayed j ok .1 k ∙ sym (contents-lookup (run j .file) (w .good .fit) k)
 
   end-once : NoneTwice (contents (run j .file))
-  end-once = contents-twice (run j .file) (w .tidy .pages)
+  end-once = contents-twice (run j .file) (w .coherent .pages)
 
   row-moment
       : (i : ℕ)
@@ -182,7 +182,7 @@ module _ (j : Job) (ok : FileOk (j .file)) where
         );
         charged = charged;
         listOnce = list-once;
-        fileOnce = λ t l. contents-twice _ (whole j ok t l .tidy .pages);
+        fileOnce = λ t l. contents-twice _ (whole j ok t l .coherent .pages);
         order = in-order;
         searches = λ t i l k v.
             search-moves _ _ _ _ _ (whole j ok t l .codes .code i (stage-row (stateAt j t) i (v .unfinished))) k (v .unfinished) (v .idles);

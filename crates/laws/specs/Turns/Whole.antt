@@ -20,8 +20,8 @@ use Rattle.laws.specs.Turns.Legal.{step-good}
 use Rattle.laws.specs.Turns.Progress.{start-good}
 use Rattle.laws.specs.Turns.Work.{Work}
 use Rattle.laws.specs.Turns.Lookup.{lookup}
-use Rattle.laws.specs.Turns.Does.{Tidy}
-use Rattle.laws.specs.Turns.Tidy.{step-tidy}
+use Rattle.laws.specs.Turns.Does.{Coherent}
+use Rattle.laws.specs.Turns.Coherent.{step-coherent}
 use Rattle.laws.specs.Turns.Codes.{Codes, Kept, step-codes, step-kept, start-codes}
 use Rattle.laws.specs.Turns.Owned.{Owned}
 use Rattle.laws.specs.Turns.Settled.{Settled, step-settled, start-settled}
@@ -32,7 +32,7 @@ use Rattle.laws.specs.Turns.States.{hist, who, firstTurn, first-le, stat
 -- what holds of every state of a run
 pub record Whole (j : Job) (s : State) : Type 0 where
   pub good : Good (j .ops) s
-  pub tidy : Tidy (j .ops) s
+  pub coherent : Coherent (j .ops) s
   pub past : Past (hist j) (who j) (firstTurn (j .turns)) (j .ops) s
   pub codes : Codes (j .ops) s
   pub account : Account (hist j) (j .ops) s
@@ -57,7 +57,7 @@ unfolding start stageOf rowOf
 start-whole j ok =
     record {
       good = start-good (j .ops) (j .file) (length (j .ops)) (ok .fit);
-      tidy =
+      coherent =
           record {
             pages = pages-of (j .file) ok;
             home = home-of (j .file) ok;
@@ -83,18 +83,18 @@ whole j ok (suc t) l =
     rw e
     (record {
       good = step-good (j .ops) s (who j t) (w .good);
-      tidy = step-tidy (j .ops) s (who j t) (w .good) (w .tidy);
+      coherent = step-coherent (j .ops) s (who j t) (w .good) (w .coherent);
       past =
           step-past (hist j) (who j) (firstTurn (j .turns)) (j .ops) s (who j t) before after
           (ap (who j) n)
           (let b = first-le (j .turns) (who j t) t l refl in omega arith)
           (w .good)
-          (w .tidy)
+          (w .coherent)
           (w .past);
-      codes = step-codes (j .ops) s (who j t) (w .good) (w .tidy) (w .codes);
-      account = step-account (hist j) (j .ops) s (who j t) before (w .account) after (w .good) (w .tidy) (w .codes);
+      codes = step-codes (j .ops) s (who j t) (w .good) (w .coherent) (w .codes);
+      account = step-account (hist j) (j .ops) s (who j t) before (w .account) after (w .good) (w .coherent) (w .codes);
       rows = step-rows (j .ops) s (who j t) ∙ w .rows;
-      settled = step-settled (j .ops) s (who j t) (w .good) (w .tidy) (w .settled);
+      settled = step-settled (j .ops) s (who j t) (w .good) (w .coherent) (w .settled);
     })
 
 pub end-whole : (j : Job) → FileOk (j .file) → Whole j (run j)
@@ -111,7 +111,7 @@ kept-on j ok i t (suc d) l n =
     let ih = kept-on j ok i t d (omega arith) n in
     let w = whole j ok (t + d) (omega arith) in
     let e : t + suc d ≡ suc (t + d) = omega arith in
-    let k = step-kept (j .ops) _ (who j (t + d)) (w .good) (w .tidy) (w .codes) i (λ z. n (sym (ih .0) ∙ z)) in
+    let k = step-kept (j .ops) _ (who j (t + d)) (w .good) (w .coherent) (w .codes) i (λ z. n (sym (ih .0) ∙ z)) in
     rw (e, stateAt-suc j (t + d) (omega arith)) (k .0 ∙ ih .0, k .1 ∙ ih .1)
 
 pub kept-end

@@ -34,7 +34,7 @@ use Rattle.laws.specs.Turns.Good.{FinePart, Fine, Planned, Good}
 use Rattle.laws.specs.Turns.Work.{Plan, WorkTask, WorkPart, Work}
 use Rattle.laws.specs.Turns.SplitPlan.{made, serves, old-stays, goes-new}
 use Rattle.laws.specs.Turns.Rows.{still}
-use Rattle.laws.specs.Turns.Does.{Tidy, Unreached, fresh}
+use Rattle.laws.specs.Turns.Does.{Coherent, Unreached, fresh}
 use Rattle.laws.specs.Turns.Owned.{Stay, OwnsTask, Owns}
 use Rattle.laws.specs.Turns.Settled.{Settled}
 use Rattle.laws.specs.Turns.Depths.{plan-low, plan-deeper}
@@ -72,7 +72,7 @@ pub record Writes (f : File) (st : Stage) (m : Move) : Type 0 where
   pub entry : WritesEntry f st (m .entry)
   pub page : WritesPage f st (m .page)
 
-module _ (ops : List Op) (s : State) (op : Op) (good : Good ops s) (tidy : Tidy ops s) where
+module _ (ops : List Op) (s : State) (op : Op) (good : Good ops s) (coherent : Coherent ops s) where
   abbrev f : File
   f = s .file
 
@@ -122,10 +122,10 @@ module _ (ops : List Op) (s : State) (op : Op) (good : Good ops s) (tidy : Tidy 
       names : (e : ℕ) → e < 2 ^ f .g → BeginsAt f (planOf f op x .old) e → entryAt f e ≡ x
       names e l b =
           let k = index-onto (f .g) e (fit-32 f (good .fit)) l in
-          let deep = first (made f op x (good .fit) (tidy .pages x) pl) .ok .deep in
+          let deep = first (made f op x (good .fit) (coherent .pages x) pl) .ok .deep in
           let i = begins-in (f .g) (planOf f op x .old) (k .0) deep (fit-32 f (good .fit)) (rw (k .1) b) in
-          let inside = first (serves f op x (good .fit) (tidy .pages x) pl) .inside (k .0) i in
-          rw (k .1) at (st (k .0) inside (old-stays f op x (good .fit) (tidy .pages x) pl (k .0) i))
+          let inside = first (serves f op x (good .fit) (coherent .pages x) pl) .inside (k .0) i in
+          rw (k .1) at (st (k .0) inside (old-stays f op x (good .fit) (coherent .pages x) pl (k .0) i))
 
   entry-writes
       : (x b n j : ℕ)
@@ -139,7 +139,7 @@ module _ (ops : List Op) (s : State) (op : Op) (good : Good ops s) (tidy : Tidy 
       record { entry = oneEntry {y = goesTo f op x b j} (w .1) (w .2) (omega (arith, o .2, pn .below)) (rw pgy deeper); page = tt }
     where
       o : (i : ℕ) × (i < n) × (goesTo f op x b j ≡ suc b + i) × ((k : ℕ) → index (f .g) k ≡ j → In (getD (planOf f op x .news) i zeroPage) k)
-      o = goes-new f op x (good .fit) (tidy .pages x) pl b n j (pn .count) fi
+      o = goes-new f op x (good .fit) (coherent .pages x) pl b n j (pn .count) fi
 
       pgy : pageAt f (goesTo f op x b j) ≡ getD (planOf f op x .news) (o .0) zeroPage
       pgy = ap (pageAt f) (o .2) ∙ w .0 (o .0) (o .1)
@@ -184,8 +184,8 @@ module _ (ops : List Op) (s : State) (op : Op) (good : Good ops s) (tidy : Tidy 
 pub i-writes
     : (ops : List Op) (s : State) (i : ℕ)
     → Good ops s
-    → Tidy ops s
+    → Coherent ops s
     → Settled ops s
     → Writes (s .file) (stageOf s i) (turn s (getD ops i noOp) (stageOf s i))
-i-writes ops s i good tidy settled =
-    turn-writes ops s (getD ops i noOp) good tidy (stageOf s i) (good .fine i) (tidy .work i) (settled .owns i)
+i-writes ops s i good coherent settled =
+    turn-writes ops s (getD ops i noOp) good coherent (stageOf s i) (good .fine i) (coherent .work i) (settled .owns i)

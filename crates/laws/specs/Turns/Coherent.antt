@@ -22,11 +22,11 @@ use Rattle.laws.specs.Turns.Locks.{Holds}
 use Rattle.laws.specs.Turns.Good.{Fine, MayPage, Good}
 use Rattle.laws.specs.Turns.Legal.{i-legal}
 use Rattle.laws.specs.Turns.Work.{WorkTask, Work, work-after, leaves-other}
-use Rattle.laws.specs.Turns.Does.{quiet, seesNone, Tidy, Does}
+use Rattle.laws.specs.Turns.Does.{quiet, seesNone, Coherent, Does}
 use Rattle.laws.specs.Turns.PageTurns.{calm, begin-does, looked-does, decided-does, written-does}
 use Rattle.laws.specs.Turns.SplitTurns.{old-does, new-does, entry-does, unlock-does}
 
-module _ (ops : List Op) (s : State) (op : Op) (good : Good ops s) (tidy : Tidy ops s) where
+module _ (ops : List Op) (s : State) (op : Op) (good : Good ops s) (coherent : Coherent ops s) where
   abbrev f : File
   f = s .file
 
@@ -36,40 +36,40 @@ module _ (ops : List Op) (s : State) (op : Op) (good : Good ops s) (tidy : Tidy 
   held-does : (x : ℕ) (t : Task) → Fine f op (Held x t) → WorkTask f op x t → D (Held x t) (heldTurn s op x t)
   unfolding heldTurn verified homeOf entryOf entryAt directoryAfter
   held-does x Verify h w =
-      if-case (D (Held x Verify)) (λ e. calm ops s op good tidy (eqb-true _ _ e) (quiet refl) tt)
-      (λ e. calm ops s op good tidy tt (quiet refl) tt)
-  held-does x (Release y) h w = calm ops s op good tidy tt (quiet refl) tt
-  held-does x Decide h w = decided-does ops s op good tidy x w _ _ refl refl
-  held-does x WritePage h w = written-does ops s op good tidy x (w .0) _ refl (h .0) w
-  held-does x WriteOld h w = old-does ops s op good tidy x (h .0) (w .0) (w .1)
-  held-does x Unlock h w = calm ops s op good tidy tt (quiet refl) tt
+      if-case (D (Held x Verify)) (λ e. calm ops s op good coherent (eqb-true _ _ e) (quiet refl) tt)
+      (λ e. calm ops s op good coherent tt (quiet refl) tt)
+  held-does x (Release y) h w = calm ops s op good coherent tt (quiet refl) tt
+  held-does x Decide h w = decided-does ops s op good coherent x w _ _ refl refl
+  held-does x WritePage h w = written-does ops s op good coherent x (w .0) _ refl (h .0) w
+  held-does x WriteOld h w = old-does ops s op good coherent x (h .0) (w .0) (w .1)
+  held-does x Unlock h w = calm ops s op good coherent tt (quiet refl) tt
 
   split-does : (x b n : ℕ) (q : Part) → Fine f op (Split x b n q) → Work f op (Split x b n q) → D (Split x b n q) (splitTurn s op x b n q)
-  split-does x b n (WriteNew i) h w = new-does ops s op good tidy x (h .0 .number) (w .0) b n i (h .0) (h .1) (w .1)
-  split-does x b n (WriteEntry j) h w = entry-does ops s op good tidy x (h .0 .number) (w .0) b n j (h .0) (h .1) (w .1)
-  split-does x b n UnlockNew h w = unlock-does ops s op good tidy x (h .0 .number) (w .0) b n (w .1 .1)
+  split-does x b n (WriteNew i) h w = new-does ops s op good coherent x (h .0 .number) (w .0) b n i (h .0) (h .1) (w .1)
+  split-does x b n (WriteEntry j) h w = entry-does ops s op good coherent x (h .0 .number) (w .0) b n j (h .0) (h .1) (w .1)
+  split-does x b n UnlockNew h w = unlock-does ops s op good coherent x (h .0 .number) (w .0) b n (w .1 .1)
 
   turn-does : (st : Stage) → Fine f op st → Work f op st → D st (turn s op st)
   unfolding turn reread entryOf
-  turn-does NotBegun h w = begin-does ops s op good tidy _ _ refl refl
-  turn-does (ReadPage x) h w = looked-does ops s op good tidy x _ w refl
+  turn-does NotBegun h w = begin-does ops s op good coherent _ _ refl refl
+  turn-does (ReadPage x) h w = looked-does ops s op good coherent x _ w refl
   turn-does (Reread x t) h w =
-      if-case (D (Reread x t)) (λ e. calm ops s op good tidy tt (seesNone x t w refl (eqb-true _ _ e) refl) tt)
-      (λ e. calm ops s op good tidy w (quiet refl) refl)
-  turn-does (Lock x) h w = calm ops s op good tidy tt (quiet refl) tt
+      if-case (D (Reread x t)) (λ e. calm ops s op good coherent tt (seesNone x t w refl (eqb-true _ _ e) refl) tt)
+      (λ e. calm ops s op good coherent w (quiet refl) refl)
+  turn-does (Lock x) h w = calm ops s op good coherent tt (quiet refl) tt
   turn-does (Held x t) h w = held-does x t h w
   turn-does (Split x b n q) h w = split-does x b n q h w
-  turn-does Done h w = calm ops s op good tidy tt (quiet refl) tt
+  turn-does Done h w = calm ops s op good coherent tt (quiet refl) tt
 
-act-tidy
+act-coherent
     : (ops : List Op) (s : State) (i : ℕ) (m : Move)
     → i < length (s .rows)
     → Good ops s
-    → Tidy ops s
+    → Coherent ops s
     → MayPage (stageOf s i) (m .page)
     → Does s (getD ops i noOp) (stageOf s i) m
-    → Tidy ops (act s i m)
-act-tidy ops s i m lt good tidy may d =
+    → Coherent ops (act s i m)
+act-coherent ops s i m lt good coherent may d =
     record {
       pages = d .pages;
       home = d .home;
@@ -79,22 +79,22 @@ act-tidy ops s i m lt good tidy may d =
           work-after (s .file) m _ (stageOf s j)
           (leaves-other (s .file) m (stageOf s i) (Holds (stageOf s j)) may (d .turns) (λ p h k. e (good .locks .apart j i p h k)))
           (good .fine j)
-          (tidy .work j));
+          (coherent .work j));
     }
 
-tick-tidy : (ops : List Op) (s : State) → Tidy ops s → Tidy ops (tick s)
+tick-coherent : (ops : List Op) (s : State) → Coherent ops s → Coherent ops (tick s)
 unfolding stageOf rowOf
-tick-tidy ops s t = record { pages = t .pages; home = t .home; work = t .work }
+tick-coherent ops s t = record { pages = t .pages; home = t .home; work = t .work }
 
 -- what the turn of operation i does
 pub i-does
     : (ops : List Op) (s : State) (i : ℕ)
     → Good ops s
-    → Tidy ops s
+    → Coherent ops s
     → Does s (getD ops i noOp) (stageOf s i) (turn s (getD ops i noOp) (stageOf s i))
-i-does ops s i good tidy = turn-does ops s (getD ops i noOp) good tidy (stageOf s i) (good .fine i) (tidy .work i)
+i-does ops s i good coherent = turn-does ops s (getD ops i noOp) good coherent (stageOf s i) (good .fine i) (coherent .work i)
 
-pub step-tidy : (ops : List Op) (s : State) (i : ℕ) → Good ops s → Tidy ops s → Tidy ops (step ops s i)
-step-tidy ops s i good tidy =
-    step-case (Tidy ops) ops s i (tick-tidy ops s tidy)
-    (λ lt e. act-tidy ops s i _ lt good tidy (i-legal ops s i good e .page) (i-does ops s i good tidy))
+pub step-coherent : (ops : List Op) (s : State) (i : ℕ) → Good ops s → Coherent ops s → Coherent ops (step ops s i)
+step-coherent ops s i good coherent =
+    step-case (Coherent ops) ops s i (tick-coherent ops s coherent)
+    (λ lt e. act-coherent ops s i _ lt good coherent (i-legal ops s i good e .page) (i-does ops s i good coherent))
