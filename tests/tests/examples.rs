@@ -10,7 +10,7 @@ use chargefile_tests::job::{Counts, Job};
 use chargefile_tests::page::Record;
 use chargefile_tests::run::Run;
 use chargefile_tests::vectors;
-use chargefile_tests::{check, report};
+use chargefile_tests::{check, report, tidy, Outcome};
 
 /// The files of the folder that no program writes.
 const BY_HAND: [&str; 8] = [
@@ -180,6 +180,9 @@ fn tidied_has_the_calls_that_thin_leaves_and_room_for_more() {
         sorted(thin.shared.file.holds()),
         sorted(tidied.file.holds())
     );
+    let result = Job::charge_file(&tidied.file);
+    let left = Job::charge_file(&thin.shared.file);
+    assert_eq!(tidy(&left, 4, result.len()), Outcome::Done { result });
     assert_eq!(check(&tidied.to_bytes()), None);
     let told = [Code::Stored, Code::Stored, Code::Found];
     assert_eq!(codes(&dealt(&tidied)), told);

@@ -8,7 +8,7 @@ use std::str::Chars;
 use chargefile_tests::check::{result_room, WORKING_MEMORY};
 use chargefile_tests::damage::NUMBERS;
 use chargefile_tests::examples::{examples, Example};
-use chargefile_tests::{check, report, run, Outcome};
+use chargefile_tests::{check, report, run, tidy, Outcome};
 
 fn document() -> String {
     let path = Path::new(env!("CARGO_MANIFEST_DIR")).join("../docs/FORMAT.md");
@@ -85,10 +85,8 @@ fn the_dumps_of_a_tidied_file() {
     let text = document();
     let before = dump(&text, "### A charge file with thin pages");
     let after = dump(&text, "### The same file, tidied at depth 1");
-    let mut out = vec![0; 200];
     assert_eq!(check(&before), None);
-    assert_eq!(rival::tidy(&before, 1, &mut out), Ok(after.len()));
-    assert_eq!(out[..after.len()], after);
+    assert_eq!(tidy(&before, 1, 200), Outcome::Done { result: after });
 }
 
 #[test]
@@ -99,13 +97,12 @@ fn the_worked_refusals_of_tidying() {
     let rows: Vec<&&str> = lines.iter().filter(|line| line.starts_with('|')).collect();
     for line in &rows[2..] {
         let cells: Vec<&str> = line.split('|').map(str::trim).collect();
-        let mut out = vec![0; cells[2].parse().expect("a length")];
-        let told = rival::tidy(&file, cells[1].parse().expect("a depth"), &mut out);
-        let ((number, place), length) = match told {
-            Ok(length) => ((0, 0), length),
-            Err(refusal) => (refusal, 0),
+        let depth = cells[1].parse().expect("a depth");
+        let told = match tidy(&file, depth, cells[2].parse().expect("a length")) {
+            Outcome::Done { result } => format!("0 0, length {}", result.len()),
+            Outcome::Refused { number, place } => format!("{number} {place}, length 0"),
         };
-        assert_eq!(cells[3], format!("{number} {place}, length {length}"));
+        assert_eq!(cells[3], told);
     }
     assert_eq!(rows.len(), 2 + 8, "all lines");
 }

@@ -1,26 +1,77 @@
-//! The tidying of the tuned rival (tests/rival): what it writes and what it refuses, on files made by hand.
+//! The tidying of the tuned rival (tests/rival) against the tests' own: what it writes and what it refuses, on files made by hand, random files and
+//! damaged ones.
 
+use chargefile_tests::damage::{fault, scribble, NUMBERS};
 use chargefile_tests::file::ChargeFile;
 use chargefile_tests::job::{Job, Kind, Operation};
 use chargefile_tests::key::call_with;
+use chargefile_tests::make;
 use chargefile_tests::page::{Page, Record};
-use chargefile_tests::{check, Outcome};
+use chargefile_tests::random::Random;
+use chargefile_tests::seeds::each_seed;
+use chargefile_tests::tally::Tally;
+use chargefile_tests::{check, tidy, Outcome};
 
 /// Enough for every charge file, and more.
 const ENOUGH: usize = 20_000;
 
+const FILES: u64 = 2_000;
+
 /// What the rival's tidying comes to in a buffer of so many bytes: of these a refusal has written none, and those past the length keep their values.
+/// The tests' own comes to the same.
 fn tidied(file: &[u8], depth: u64, room: usize) -> Outcome {
     let mut out = vec![0xA5; room];
     let told = rival::tidy(file, depth, &mut out);
     let kept = out.split_off(told.unwrap_or(0));
     assert!(kept.iter().all(|byte| *byte == 0xA5), "bytes past the end");
-    match told {
+    let told = match told {
         Ok(_) => Outcome::Done { result: out },
         Err((number, place)) => Outcome::Refused {
             number,
             place: place as u32,
         },
+    };
+    assert_eq!(told, tidy(file, depth, room));
+    told
+}
+
+/// At every depth and one past the last: with enough lent, and where it is tidied with just enough and a byte less.
+fn at_every_depth(file: &[u8], tally: &mut Tally) {
+    for depth in 0..=9 {
+        match tidied(file, depth, ENOUGH) {
+            Outcome::Refused { number, .. } => tally.count(number),
+            Outcome::Done { result } => {
+                tidied(file, depth, result.len());
+                tidied(file, depth, result.len() - 1);
+                tally.count(0);
+            }
+        }
+    }
+}
+
+/// Files of random jobs, of which deletes have left some records, few or none; the jobs themselves; and damaged files.
+#[test]
+fn random_files() {
+    let mut tally = Tally::default();
+    let whole = each_seed(FILES, |seed| {
+        let random = &mut Random::new(seed, "rival tidying");
+        let mut job = make::mostly_small_job(random, seed);
+        at_every_depth(&job.to_bytes(), &mut tally);
+        let of_ten = random.below(11);
+        for page in &mut job.file.pages {
+            page.records.retain(|_| random.below(10) < of_ten);
+        }
+        let file = Job::charge_file(&job.file);
+        at_every_depth(&file, &mut tally);
+        (job.operations, job.turns) = (Vec::new(), Vec::new());
+        let number = random.one_of(&NUMBERS);
+        let faulty = fault(random, &job, number).map(|fault| fault.apply(&file));
+        for damaged in faulty.into_iter().chain([scribble(random, &file)]) {
+            at_every_depth(&damaged, &mut tally);
+        }
+    });
+    if whole {
+        tally.all_met([0, 1, 2, 3, 4, 5, 12, 6, 13, 7, 8, 18, 19], 50);
     }
 }
 
