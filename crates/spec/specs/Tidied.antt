@@ -13,14 +13,14 @@ use Rattle.spec.specs.Decode.{fileOf, jobOf}
 use Rattle.spec.specs.Result.{readResult}
 use Rattle.spec.specs.Outcome.{resultBytes}
 use Rattle.spec.specs.PlainList.{NoneTwice}
-use Rattle.spec.specs.Tidy.{NoPair, Same, Joins, pagesLeft, tidyFile, tidyBytes, tidyFault}
+use Rattle.spec.specs.Tidy.{NoPair, Same, Joins, pagesLeft, ByFirstEntry, tidyFile, tidyBytes, tidyFault}
 use Rattle.spec.specs.Claims.{Accepted, IsFile, Explained}
 
 -- the longest charge file: depth 8, capacity 8, 256 pages
 abbrev pub longest : ℕ
 longest = 17952
 
--- The pages that are left of a file, however they are joined.
+-- The pages that are left of a file, however they are joined, and their order.
 pub record Joined (f : File) : Type 0 where
   -- they come of the file's pages by joins, one after another
   pub reached : Joins (f .c) (pagesInUse f) (pagesLeft f)
@@ -28,12 +28,15 @@ pub record Joined (f : File) : Type 0 where
   pub noPair : NoPair (f .c) (pagesLeft f)
   -- and any joins, one after another until no pair is left, end in the same pages
   pub anyOrder : (ps : List Page) → Joins (f .c) (pagesInUse f) ps → NoPair (f .c) ps → Same ps (pagesLeft f)
+  -- "The pages are then numbered by their first entry": so they stand, and in no other order would they
+  pub numbered : ByFirstEntry (f .g) (pagesLeft f)
+  pub noOther : (ps : List Page) → Joins (f .c) (pagesInUse f) ps → NoPair (f .c) ps → ByFirstEntry (f .g) ps → ps ≡ pagesLeft f
 
 -- The charge file b, tidied at depth d, where that is not refused.
 pub record Tidied (d : ℕ) (b : List ℕ) : Type 0 where
   pub joined : Joined (fileOf b)
-  -- "The pages are then numbered by their first entry": along the directory the numbers do not fall
-  pub numbered : (i j : ℕ) → i ≤ j → j < 2 ^ d → entryAt (tidyFile d (fileOf b)) i ≤ entryAt (tidyFile d (fileOf b)) j
+  -- along the new directory the numbers do not fall
+  pub entries : (i j : ℕ) → i ≤ j → j < 2 ^ d → entryAt (tidyFile d (fileOf b)) i ≤ entryAt (tidyFile d (fileOf b)) j
   -- what is written is accepted as a job by itself, and as a job is the tidied file
   pub bytes : AreBytes (tidyBytes d b)
   pub accepted : IsFile (tidyBytes d b) (tidyFile d (fileOf b))

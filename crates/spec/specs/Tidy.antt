@@ -91,6 +91,15 @@ pub record Wanted (d : ℕ) (f : File) : Type 0 where
   pub most : d ≤ maxDepth
   pub least : Each (λ q. q .depth ≤ d) (pagesLeft f)
 
+-- the first entry that names a page, in a directory of depth d
+unfoldable pub firstEntry : ℕ → Page → ℕ
+firstEntry d q = q .pattern * 2 ^ (d - q .depth)
+
+-- "numbered by their first entry": each page's is before those of the pages behind it
+pub data ByFirstEntry (d : ℕ) : List Page → Type 0 where
+  nobody : ByFirstEntry d []
+  before : {p : Page} {ps : List Page} → Each (λ q. firstEntry d p < firstEntry d q) ps → ByFirstEntry d ps → ByFirstEntry d (p ∷ ps)
+
 -- the numbers of the pages whose patterns begin the next n entries, from j on
 unfoldable pub ownersFrom : ℕ → ℕ → List Page → ℕ → List ℕ
 ownersFrom zero d ps j = []

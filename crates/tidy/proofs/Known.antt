@@ -11,7 +11,8 @@ use Rattle.spec.specs.File.{Page, pageAt, entryAt}
 use Rattle.spec.specs.Job.{pageSize}
 use Rattle.spec.specs.Decode.{headerOf, pageParts, pageOf, fileOf, jobOf}
 use Rattle.laws.specs.Codec.Pages.{page-at}
-use Rattle.laws.specs.Tidy.Entries.{pageOn, firstEntry, recordsAt}
+use Rattle.spec.specs.Tidy.{firstEntry}
+use Rattle.laws.specs.Tidy.Entries.{pageOn, recordsAt}
 use Rattle.laws.specs.Tidy.Spans as spans
 use Rattle.header.specs.declared.Header.{Header}
 use Rattle.page.specs.View.{records-all, records-length}

@@ -37,6 +37,7 @@ use Rattle.laws.specs.Tidy.Ends.{none-left}
 use Rattle.laws.specs.Tidy.Again.{left-again, tidy-again}
 use Rattle.laws.specs.Tidy.Order.{any-order}
 use Rattle.laws.specs.Tidy.Reached.{left-reached}
+use Rattle.laws.specs.Tidy.Numbered.{left-order, only-left}
 
 -- the file's own depth and every greater one may be wanted
 pub own-depth : (f : File) → FileOk f → (d : ℕ) → f .g ≤ d → d ≤ maxDepth → Wanted d f
@@ -77,7 +78,14 @@ fault-numbered room d b =
 
 -- however the pages are joined
 pub joined : (f : File) → FileOk f → Joined f
-joined f ok = record { reached = left-reached f ok; noPair = none-left f ok; anyOrder = any-order f ok }
+joined f ok =
+    record {
+      reached = left-reached f ok;
+      noPair = none-left f ok;
+      anyOrder = any-order f ok;
+      numbered = left-order f ok;
+      noOther = only-left f ok;
+    }
 
 module _ (d : ℕ) (b : List ℕ) (bytes : AreBytes b) (accepted : jobFault b ≡ none) (noOps : headerOf b .ops ≡ 0) (w : Wanted d (fileOf b)) where
   abbrev f : File
@@ -136,7 +144,7 @@ module _ (d : ℕ) (b : List ℕ) (bytes : AreBytes b) (accepted : jobFault b �
   tidied-of =
       record {
         joined = joined f (proper .0);
-        numbered = tidy-numbered f (proper .0) d w;
+        entries = tidy-numbered f (proper .0) d w;
         bytes = written-bytes (fileJob (tidyFile d f)) (file-proper (tidyFile d f) ok fits);
         accepted = is-file;
         most = most;

@@ -7,15 +7,11 @@ use lib.Dec.{eqb, ltb, leb}
 use Rattle.spec.specs.declared.Rec.{Rec}
 use Rattle.spec.specs.Basics.{if}
 use Rattle.spec.specs.File.{Page, File, pageAt, entryAt}
-use Rattle.spec.specs.Tidy.{merged}
+use Rattle.spec.specs.Tidy.{firstEntry, merged}
 
 -- the page that entry j names
 unfoldable pub pageOn : File → ℕ → Page
 pageOn f j = pageAt f (entryAt f j)
-
--- the first entry of a page, in a directory of depth d, and how many entries name it
-unfoldable pub firstEntry : ℕ → Page → ℕ
-firstEntry d q = q .pattern * 2 ^ (d - q .depth)
 
 -- how many records lie in the page whose first entry is j; none, where j is no page's first
 unfoldable pub recordsAt : File → ℕ → ℕ

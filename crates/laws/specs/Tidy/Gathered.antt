@@ -15,7 +15,7 @@ use Rattle.spec.specs.Key.{begins}
 use Rattle.spec.specs.File.{Page, File, zeroPage, pageAt, entryAt, findIn}
 use Rattle.spec.specs.PlainList.{NoneTwice}
 use Rattle.spec.specs.Proper.{PageNo, PageOk, FileOk}
-use Rattle.spec.specs.Tidy.{merged, joinPages, pagesLeft}
+use Rattle.spec.specs.Tidy.{firstEntry, merged, joinPages, pagesLeft}
 use Rattle.laws.specs.Tools.{if-true, if-false, if-both, each-append, each-at}
 use Rattle.laws.specs.Turns.Records.{join-twice}
 use Rattle.laws.specs.Turns.CallsRise.{rise-once}
@@ -24,7 +24,7 @@ use Rattle.laws.specs.Tidy.Tiles.{tiles-some, tiles-one}
 use Rattle.laws.specs.Tidy.Twins.{Twins, apart as twins-apart}
 use Rattle.laws.specs.Tidy.Left.{is-pair, Left, own, pair, apart, pages-left}
 use Rattle.laws.specs.Tidy.Kept.{twins, left-tiles, left-each, Right, page-right, joined-right, left-right}
-use Rattle.laws.specs.Tidy.Entries.{pageOn, firstEntry, recordsFrom, gathered, pageFrom}
+use Rattle.laws.specs.Tidy.Entries.{pageOn, recordsFrom, gathered, pageFrom}
 use Rattle.laws.specs.Tidy.Starts.{twice}
 
 -- ---- the steps of the walk

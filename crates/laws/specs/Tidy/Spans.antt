@@ -13,9 +13,9 @@ use borrow.Author.Tests.{eq-eqb, ne-eqb}
 use Rattle.spec.specs.Key.{begins}
 use Rattle.spec.specs.File.{Page, File, zeroPage, pageAt, entryAt}
 use Rattle.spec.specs.Proper.{PageNo, FileOk}
-use Rattle.spec.specs.Tidy.{joinPages}
+use Rattle.spec.specs.Tidy.{firstEntry, joinPages}
 use Rattle.laws.specs.Tools.{if-case, if-true, if-false}
-use Rattle.laws.specs.Tidy.Entries.{pageOn, firstEntry, recordsAt, recordsBefore, recordsUnder}
+use Rattle.laws.specs.Tidy.Entries.{pageOn, recordsAt, recordsBefore, recordsUnder}
 use Rattle.laws.specs.Tidy.Twins.{joined-length}
 use Rattle.laws.specs.Tidy.Left.{is-pair, pair-is, Left, own, pair, apart}
 use Rattle.laws.specs.Tidy.Kept.{twins, left-tiles}

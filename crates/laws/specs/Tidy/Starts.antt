@@ -14,14 +14,14 @@ use Rattle.spec.specs.Basics.{Each}
 use Rattle.spec.specs.Key.{index}
 use Rattle.spec.specs.File.{Page, zeroPage}
 use Rattle.spec.specs.Split.{newOwner}
-use Rattle.spec.specs.Tidy.{ownersFrom}
+use Rattle.spec.specs.Tidy.{firstEntry, ownersFrom}
 use Rattle.laws.specs.Tools.{each-at}
 use Rattle.laws.specs.Key.{index-lt, index-onto}
 use Rattle.laws.specs.Turns.Prefix.{index-prefix}
 use Rattle.laws.specs.Turns.Owners.{newOwner-is}
 use Rattle.laws.specs.Tidy.Tiles.{each-left, each-right, Tiles, whole, halves, tiles-some, tiles-deep, tiles-lone, Covered, tiles-cover}
 use Rattle.laws.specs.Tidy.Laid.{length-owners, owners-at}
-use Rattle.laws.specs.Tidy.Entries.{firstEntry, startOf, spread}
+use Rattle.laws.specs.Tidy.Entries.{startOf, spread}
 
 -- ---- where a page begins: the steps
 
