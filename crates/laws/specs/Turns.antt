@@ -43,10 +43,11 @@ pub mod Log
 pub mod Replay
 pub mod Answers
 pub mod Theorem
--- the result's file is proper again; sizes; an example
+-- the result's file is proper again; sizes; a page in use stays in use; an example
 pub mod Again
 pub mod Narrow
 pub mod Sizes
+pub mod InUse
 pub mod Sample
 -- for the code: a split is each time the one decided; entries and depths only rise; look-ups in place of walks; numbers that fit
 pub mod Frozen

@@ -14,7 +14,9 @@ use Rattle.spec.specs.Result.{readResult}
 use Rattle.spec.specs.Outcome.{resultBytes}
 use Rattle.spec.specs.PlainList.{NoneTwice}
 use Rattle.spec.specs.Tidy.{NoPair, Same, Joins, pagesLeft, ByFirstEntry, tidyFile, tidyBytes, tidyFault}
-use Rattle.spec.specs.Claims.{Accepted, IsFile, Explained}
+use Rattle.spec.specs.Job.{Job}
+use Rattle.spec.specs.Proper.{PageNo}
+use Rattle.spec.specs.Claims.{stateAt, Accepted, IsFile, Explained}
 
 -- the longest charge file: depth 8, capacity 8, 256 pages
 abbrev pub longest : ℕ
@@ -53,6 +55,10 @@ pub record Tidied (d : ℕ) (b : List ℕ) : Type 0 where
       → Accepted k
       → fileOf k ≡ fileOf (tidyBytes d b)
       → Explained (jobOf k) (readResult (resultBytes k ++ post))
+
+-- "no page number comes back into use during a run": a page in use stays in use, whatever the job; so only tidying gives pages back
+abbrev pub StaysInUse : Type 0
+StaysInUse = (j : Job) (t u x : ℕ) → t ≤ u → u ≤ length (j .turns) → PageNo (stateAt j t .file) x → PageNo (stateAt j u .file) x
 
 -- WHAT TIDYING IS TO KEEP, for every charge file, given as its bytes, every depth and every buffer
 abbrev pub Tidies : Type 0
