@@ -8,7 +8,8 @@
  * a charge file and writes it with the depth that is wanted. docs/FORMAT.md has every byte of a job
  * and of a result, and what tidying does.
  *
- * Proved, for every input (crates/chargefile/specs/Called.antt, crates/run/specs/Call.antt):
+ * Proved, for every input (crates/chargefile/specs/Called.antt, crates/run/specs/Call.antt,
+ * crates/tidy/specs/Call.antt with crates/spec/specs/Tidied.antt):
  *
  *   - Any bytes may be handed over as a job or as a charge file. A call always ends, with its
  *     output or with one numbered refusal.
