@@ -6,17 +6,17 @@ use native.Mathlib.Nat.{zero-add}
 use native.Mathlib.Numerals.{add-one}
 use native.Mathlib.Omega.{arith}
 use lib.Pow.{pow-pos, pow-mono}
-use lib.ListN.{length, length-append}
+use lib.ListN.{length, take, drop, length-append}
+use lib.Seq.{take-all}
 use Rattle.spec.specs.declared.Rec.{Rec}
 use Rattle.spec.specs.Basics.{each, Each, end}
-use Rattle.spec.specs.Bytes.{byte}
+use Rattle.spec.specs.Bytes.{AreBytes, byte}
 use Rattle.spec.specs.File.{Page, File, pageAt, entryAt, putIn}
 use Rattle.spec.specs.Job.{pageSize, tableOffset}
 use Rattle.spec.specs.Encode.{recordBytes, pageBytes}
 use Rattle.spec.specs.Decode.{headerOf, pageParts, pageOf, fileOf}
 use Rattle.spec.specs.Tidy.{merged}
 use Rattle.laws.specs.Tools.{each-append, each-or}
-use Rattle.laws.specs.Codec.Tools.{each-places}
 use Rattle.laws.specs.Codec.Numbers.{drop-bytes, parts-bytes}
 use Rattle.laws.specs.Codec.Back.{RecFits}
 use Rattle.laws.specs.Codec.Exact.{page-fits}
@@ -25,9 +25,9 @@ use Rattle.laws.specs.Codec.Sections.{length-records}
 use Rattle.laws.specs.Turns.CallsRise.{put-length}
 use Rattle.laws.specs.Tidy.Merged.{merged-length, merged-each, merged-nil, merged-append, merged-snoc}
 use Rattle.laws.specs.Tidy.Entries.{pageOn, gathered, pageFrom}
-use Rattle.laws.specs.Tidy.Gathered.{gathered-step, gathered-end}
+use Rattle.laws.specs.Tidy.Gathered.{gathered-step, gathered-end, own-from}
 use Rattle.wire.specs.Over.{over}
-use Rattle.wire.specs.OverLaws.{over-none, over-again, length-over}
+use Rattle.wire.specs.OverLaws.{over-none, over-whole, over-again, length-over}
 use Rattle.header.specs.declared.Header.{Header}
 use Rattle.page.specs.View.{recordAt, recordsFrom, records-none, records-snoc, records-length}
 use Rattle.page.specs.Room.{room, room-size}
@@ -71,11 +71,11 @@ partly-more s p t n i b b' l e =
 -- ---- the records of the pages from one entry on
 
 -- what is read of bytes fits
-page-records-fit : (b : List ℕ) (x : ℕ) → ((k : ℕ) → byte b k < 256) → Each RecFits (pageAt (fileOf b) x .records)
-unfolding byte pageAt fileOf pageParts
+page-records-fit : (b : List ℕ) (x : ℕ) → AreBytes b → Each RecFits (pageAt (fileOf b) x .records)
+unfolding pageAt fileOf pageParts
 page-records-fit b zero h = end
 page-records-fit b (suc x) h =
-    let parts = parts-bytes _ _ _ (drop-bytes (tableOffset (headerOf b)) b (each-places b 0 .1 (λ k l. h k))) in
+    let parts = parts-bytes _ _ _ (drop-bytes (tableOffset (headerOf b)) b h) in
     rw (page-at b x) (page-fits _ (each-or (pageParts (headerOf b) b) x [] end parts))
 
 -- those before entry j are in: n records, written over s
@@ -157,17 +157,16 @@ module _ {h : Header} {b : List ℕ} (e : Given h b) {from to : ℕ} {s t : List
   -- and the walk goes on
   pub step-more
       : (u : List ℕ) (m d : ℕ)
-      → ((k : ℕ) → byte b k < 256)
       → pageSize n ≤ length s
       → u ≡ over t 4 (each recordBytes (merged (recordsFrom t 0 n) (pageOf p .records)))
       → m ≡ n + length (pageOf p .records)
       → d ≡ pageOf p .depth
       → Gathers (fileOf b) from to s u m (j + 1 * 2 ^ (h .depth - d) % 2 ^ 64)
   unfolding pageOn
-  step-more u m d bytes room written many deep =
+  step-more u m d room written many deep =
       let run = shifted (h .depth - d) (omega (arith, e .heads .limits .depth)) in
       rw (written, many, run .0, deep, there .is, ← depth-is e)
-      (gathers-more g l (page-records-fit b (entryAt (fileOf b) j) bytes) room)
+      (gathers-more g l (page-records-fit b (entryAt (fileOf b) j) (e .bytes)) room)
 
 -- ---- the page of depth l whose first entry is j
 module _ {h : Header} {b : List ℕ} (e : Given h b) (j l : ℕ) where
@@ -197,3 +196,20 @@ module _ {h : Header} {b : List ℕ} (e : Given h b) (j l : ℕ) where
       let image =
       closed-image s (merged [] under) l n (j / 2 ^ (h .depth - l)) (rw r size) (omega (arith, many, merged-length [] under)) (omega (arith, r, under-few few, many)) in
       rw (written, from-under) (rw r at image)
+
+  -- entry j is an entry
+  pub under-first : j + 2 ^ (h .depth - l) ≤ 2 ^ h .depth → j < 2 ^ h .depth
+  under-first k = omega (arith, pow-pos (h .depth - l))
+
+  -- the file's own, of bytes p, copied over s
+  pub under-own
+      : {p : List ℕ} (s : List ℕ)
+      → j < 2 ^ h .depth
+      → Shows h (pageOn (fileOf b) j) p
+      → pageOf p .depth ≡ l
+      → length s ≡ pageSize (h .capacity)
+      → over s 0 (take (length s) (drop 0 p)) ≡ pageBytes (h .capacity) (pageFrom (fileOf b) j l)
+  under-own {p} s k there deep size =
+      let n : length s ≡ length p = size ∙ sym (there .size) in
+      let own : pageFrom (fileOf b) j l ≡ pageOn (fileOf b) j = rw (← deep, there .is) (own-from (fileOf b) (e .ok) j (rw (depth-is e) k)) in
+      rw (take-all (length s) p (omega arith), own, there .written) (over-whole p s (sym n))

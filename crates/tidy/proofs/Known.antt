@@ -12,6 +12,8 @@ use Rattle.spec.specs.Job.{pageSize}
 use Rattle.spec.specs.Decode.{headerOf, pageParts, pageOf, fileOf, jobOf}
 use Rattle.laws.specs.Codec.Pages.{page-at}
 use Rattle.spec.specs.Tidy.{firstEntry}
+use Rattle.laws.specs.Codec.Rows.{accepted-rows}
+use Rattle.laws.specs.Codec.Forth.{part-forth}
 use Rattle.laws.specs.Tidy.Entries.{pageOn, recordsAt}
 use Rattle.laws.specs.Tidy.Spans as spans
 use Rattle.header.specs.declared.Header.{Header}
@@ -75,14 +77,16 @@ module _ {h : Header} {b : List ℕ} (e : Given h b) where
       → s ≡ getD (pageParts (headerOf b) b) (x - 1) []
       → length s ≡ pageSize (h .capacity)
       → Shows h (pageOn (fileOf b) j) s
-  unfolding pageOn pageOf
+  unfolding pageOn pageOf fileOf
   page-shown j x s l p q n =
       let r = entry-names j x l p in
       let z : suc (x - 1) ≡ x = omega (arith, r .1) in
       let is : pageOf s ≡ pageAt (fileOf b) x = rw q (sym (rw z at (page-at b (x - 1)))) in
+      let same = part-forth b (e .bytes) (accepted-rows b .0 (e .accepted)) (x - 1) (omega (arith, r .1, r .2, pages-is, e .heads .limits .used .1)) in
       let ok = e .ok .pages x (omega (arith, r .1), omega (arith, r .2, used-is)) in
       record {
         is = is ∙ rw (r .0);
+        written = rw (← r .0, ← is, ← capacity-is, q) same;
         size = n;
         deep = omega (arith, ok .deep, ap (λ (y : Page). y .depth) is, depth-is);
         few = omega (arith, count-shown s, ok .room, ap (λ (y : Page). length (y .records)) is, capacity-is);

@@ -74,9 +74,9 @@ unfolding tidyFault orElse
 by-job room d b f e = rw e
 
 -- an accepted file, with its header
-pub given : (h : Header) (b : List ℕ) → jobFault b ≡ none → countsOf h ≡ headerOf b → Given h b
+pub given : (h : Header) (b : List ℕ) → AreBytes b → jobFault b ≡ none → countsOf h ≡ headerOf b → Given h b
 unfolding jobOf
-given h b e c = record { heads = accepted-heads h b e c; ok = accepted-file b e }
+given h b bytes e c = record { bytes = bytes; accepted = e; heads = accepted-heads h b e c; ok = accepted-file b e }
 
 -- THE CALL
 pub settled

@@ -1,5 +1,5 @@
-// The pages left, each written once, straight into the output: its records come from the file's pages one after another, and each is put in its
-// place among those that are there.
+// The pages left, each written once, straight into the output. One of the file's own is copied; where pages are joined, the records come from them
+// one after another, and each is put in its place among those that are there.
 use crate::left;
 use header::Header;
 ghost use mathlib.Core.Path.{_≡_};
@@ -46,14 +46,27 @@ fn gather(file: &[u8], h: Header, from: usize, to: usize, out: &mut [u8]) -> usi
     n
 }
 
-// The page of depth l whose first entry is j.
-fn put_page(file: &[u8], h: Header, j: usize, l: usize, out: &mut [u8])
+// The page of depth l whose first entry is j, from the records of its entries' pages.
+fn put_joined(file: &[u8], h: Header, j: usize, l: usize, out: &mut [u8])
     requires { ⌜ Given h (now file) × (l ≤ h .depth) × (j + 2 ^ (h .depth - l) ≤ 2 ^ h .depth) × (length (now out) ≡ pageSize (h .capacity)) × (length (pageFrom (fileOf (now file)) j l .records) ≤ h .capacity) ⌝ }
     ensures { λ _. ⌜ now (out .exit) ≡ pageBytes (h .capacity) (pageFrom (fileOf (now (file .entry))) j l) ⌝ }
 {
     let shift = h.depth - l;
     let n = gather(file, h, j, j + (1 << shift), out);
     page::close(out, l, n, j >> shift);
+}
+
+// The page of depth l whose first entry is j: the file's own, or joined.
+fn put_page(file: &[u8], h: Header, j: usize, l: usize, out: &mut [u8])
+    requires { ⌜ Given h (now file) × (l ≤ h .depth) × (j + 2 ^ (h .depth - l) ≤ 2 ^ h .depth) × (length (now out) ≡ pageSize (h .capacity)) × (length (pageFrom (fileOf (now file)) j l .records) ≤ h .capacity) ⌝ }
+    ensures { λ _. ⌜ now (out .exit) ≡ pageBytes (h .capacity) (pageFrom (fileOf (now (file .entry))) j l) ⌝ }
+{
+    let page = left::page_on(file, h, j);
+    if page::depth(page) == l {
+        wire::copy(page, 0, out, 0, out.len());
+    } else {
+        put_joined(file, h, j, l, out);
+    }
 }
 
 // All pages left, whose depths these are. "pages no longer in use are zero"

@@ -1,10 +1,10 @@
 -- The bytes of an accepted job are what is written of the job that they mean: encodeJob (jobOf b) is b.
-use Prim.Native.Nat.{ℕ, zero, suc, _+_, _-_, _*_, _^_, _≤_}
+use Prim.Native.Nat.{ℕ, zero, suc, _+_, _-_, _*_, _^_, _<_, _≤_}
 use mathlib.Core.Path.{_≡_, refl}
 use mathlib.Core.List.{List, [], _∷_, map}
 use mathlib.Core.Option.{none}
 use native.Mathlib.Omega.{arith}
-use lib.ListN.{length, drop, replicate, length-map, length-drop}
+use lib.ListN.{length, getD, drop, replicate, length-map, length-drop}
 use Rattle.spec.specs.Basics.{if, each, Each}
 use Rattle.spec.specs.Bytes.{AreBytes, byte, word, long, two, four, parts}
 use Rattle.spec.specs.Job.{Header, kindNumber, kindOf, pageSize, tableOffset, opsOffset, turnsOffset, total}
@@ -99,13 +99,23 @@ module _ (b : List ℕ) (bytes : AreBytes b) (rows : Rows b) where
   unfolding fileOf entryParts total turnsOffset opsOffset tableOffset
   directory-forth = section-forth b bytes two numberOf (2 ^ headerOf b .g) 2 32 (omega (arith, laid .size)) (each-imp number-forth)
 
+  -- each page by itself
+  pub part-forth
+      : (k : ℕ)
+      → k < headerOf b .limit
+      → pageBytes (headerOf b .c) (pageOf (getD (pageParts (headerOf b) b) k [])) ≡ getD (pageParts (headerOf b) b) k []
+  unfolding pageParts total turnsOffset opsOffset
+  part-forth k l =
+      let room : pageSize (headerOf b .c) * headerOf b .limit ≤ length (drop (tableOffset (headerOf b)) b) = rw length-drop (omega (arith, laid .size)) in
+      let whole = parts-whole _ _ _ (drop-bytes (tableOffset (headerOf b)) b bytes) room in
+      page-forth (headerOf b) (suc k) _ (each-places _ [] .0 whole k (rw length-parts l)) (fine b rows k l)
+
   pub table-forth
       : Piece b (each (pageBytes (fileOf b .c)) (drop 1 (fileOf b .table))) (tableOffset (headerOf b)) (pageSize (headerOf b .c) * headerOf b .limit)
   unfolding fileOf pageParts total turnsOffset opsOffset
   table-forth =
       section-forth b bytes (pageBytes (headerOf b .c)) pageOf (headerOf b .limit) (pageSize (headerOf b .c)) (tableOffset (headerOf b)) (omega (arith, laid .size))
-      (λ whole.
-      each-places _ [] .1 (λ k l. page-forth (headerOf b) (suc k) _ (each-places _ [] .0 whole k l) (fine b rows k (rw length-parts at l))))
+      (λ whole. each-places _ [] .1 (λ k l. part-forth k (rw length-parts at l)))
 
   ops-forth : Piece b (each opBytes (jobOf b .ops)) (opsOffset (headerOf b)) (10 * headerOf b .ops)
   unfolding jobOf opParts total turnsOffset wrongOp

@@ -8,7 +8,7 @@ use native.Mathlib.Nat.{mul-le-mul-right}
 use native.Mathlib.Decide.{decLt}
 use lib.ListN.{length, getD, length-append}
 use lib.Pow.{pow-pos, pow-add, high, shl-shr}
-use borrow.Author.Tests.{lt-ltb, le-ltb, eq-eqb}
+use borrow.Author.Tests.{eqb-true, lt-ltb, le-ltb, eq-eqb}
 use Rattle.spec.specs.declared.Rec.{Rec}
 use Rattle.spec.specs.Basics.{Each, end, next}
 use Rattle.spec.specs.Key.{begins}
@@ -297,6 +297,17 @@ module _ (f : File) (ok : FileOk f) where
       let q = leftPage f m in
       let e = past (q .pattern) (2 ^ (g - q .depth)) in
       rw (← e) (ends (each-at (pagesLeft f) m zeroPage l (by-itself (pages-left f ok))) x n a (rw e b))
+
+  -- a page of the file, made of its depth and of an entry that names it
+  pub own-from : (j : ℕ) → j < 2 ^ g → pageFrom f j (pageOn f j .depth) ≡ pageOn f j
+  unfolding pageFrom pageOn begins entryAt
+  own-from j l =
+      let q = pageOn f j in
+      let n = 2 ^ (g - q .depth) in
+      let pos = pow-pos (g - q .depth) in
+      let w : gathered f j (j + n) ≡ q .records
+      = gathered-step f j (j + n) (omega arith) ∙ ap (λ rs. q .records ++ rs) (gathered-end f (j + n) (j + n) (omega arith)) ∙ append-nil (q .records) in
+      from-parts q _ _ (eqb-true _ _ (ok .names j l)) (ap (merged []) w ∙ sorted-same _ (ok .pages (entryAt f j) (ok .fit .entries j l) .callsRise))
 
   -- THE PAGE LEFT, made of its depth and its first entry
   pub left-page : (m : ℕ) → m < length (pagesLeft f) → pageFrom f (leftFrom f m) (leftPage f m .depth) ≡ leftPage f m

@@ -3,6 +3,7 @@ use mathlib.Core.Path.{_≡_, refl, sym, _∙_}
 use mathlib.Core.Option.{none}
 use native.Mathlib.Omega.{arith}
 use borrow.Author.Needs.{needs}
+use Rattle.spec.specs.Bytes.{AreBytes}
 use Rattle.spec.specs.Check.{jobFault}
 use Rattle.laws.specs.Codec.Rows.{accepted-header}
 use Rattle.laws.specs.Codec.AsBytes.{are-bytes}
@@ -26,7 +27,10 @@ returns c =
 enum-told : tie.Need-enum-told
 enum-told c = search needs
 
--- the check was passed
+-- the file is a byte string, and the check was passed
+bytes : (c : tie.After-enum-told) → AreBytes (c .before .before .before .before .before .args .file .now)
+bytes c = are-bytes _ (λ j. omega (arith, c .before .before .before .before .shared-slice-known .given j))
+
 passed : (c : tie.After-enum-told) → jobFault (c .before .before .before .before .before .args .file .now) ≡ none
 passed c = accepted _ (sym (c .enum-told .given .1) ∙ c .before .before .check .ensures)
 
@@ -34,7 +38,7 @@ read-requires : tie.Need-read-requires
 read-requires c κs = accepted-header _ (passed c) .laid .header
 
 tidy-file-requires : tie.Need-tidy-file-requires
-tidy-file-requires c κs = given _ _ (passed (c .before .before)) (c .before .read .ensures)
+tidy-file-requires c κs = given _ _ (bytes (c .before .before)) (passed (c .before .before)) (c .before .read .ensures)
 
 same-length : tie.Need-same-length
 same-length c = search needs
@@ -42,7 +46,7 @@ same-length c = search needs
 returns-2 : tie.Need-returns-2
 returns-2 c =
     let u = c .before .before .before .before .before in
-    settled (are-bytes _ (λ j. omega (arith, u .before .before .before .before .shared-slice-known .given j))) (by-file _ _ _ (passed u)) (c .before .before .tidy-file .ensures)
+    settled (bytes u) (by-file _ _ _ (passed u)) (c .before .before .tidy-file .ensures)
 
 pub tidy-spec : {M : Type 1} → statement M
 tidy-spec = tie.close (tie.spec check-requires enum-known-c returns enum-told read-requires tidy-file-requires same-length returns-2)

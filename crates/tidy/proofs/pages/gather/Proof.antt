@@ -3,7 +3,6 @@ use mathlib.Core.Path.{_≡_, refl}
 use Prim.Native.Nat.{_-_}
 use native.Mathlib.Omega.{arith}
 use lib.ListN.{length}
-use Rattle.spec.specs.Bytes.{byte}
 use Rattle.spec.specs.Decode.{fileOf}
 use Rattle.tidy.proofs.Gather.{Gathers, gathers-none, gathers-length, gathers-all, run-range, entries-most, step-room, step-deep, step-more}
 use Rattle.tidy.proofs.pages.gather.Statement.{statement}
@@ -54,16 +53,14 @@ loop-less c =
     omega (arith, run-range (q .0) (c .before .depth .result))
 
 loop-again : tie.Need-loop-again Inv-loop μ-loop
-unfolding byte
 loop-again c =
     let l = c .before .before .before .before .before .before .before .before .loop in
     let q = c .before .before .before .before .before .before .before .before .before .before .before .pre in
     let put = c .before .before .before .before .put-all in
-    let known = c .before .before .before .before .before .before .before .before .before .before .shared-slice-known .given in
     let there = c .before .before .before .before .before .before .page-on .ensures in
     let room = step-room (q .0) (l .inv .1) (omega arith) there (q .2) (q .3) in
     let more =
-    step-more (q .0) (l .inv .1) (omega arith) there _ _ _ (λ k. omega (arith, known k)) (omega (arith, room, l .inv .0)) (put .ensures .1) (put .ensures .0)
+    step-more (q .0) (l .inv .1) (omega arith) there _ _ _ (omega (arith, room, l .inv .0)) (put .ensures .1) (put .ensures .0)
     (c .before .depth .ensures .0) in
     (gathers-length more, more)
 

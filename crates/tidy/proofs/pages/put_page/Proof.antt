@@ -1,48 +1,42 @@
--- `pages::put_page` meets its contract: the records of its entries' pages are gathered, and the page is closed.
-use mathlib.Core.Path.{_∙_}
+-- `pages::put_page` meets its contract: where the page that entry j names has depth l, it is the page that is asked for, and its bytes are copied.
+use mathlib.Core.Path.{sym, _∙_}
 use native.Mathlib.Omega.{arith}
-use borrow.Author.Needs.{needs}
-use Rattle.tidy.proofs.Gather.{entries-most, under-range, under-few, under-closed}
+use Rattle.tidy.proofs.Gather.{under-first, under-own}
 use Rattle.tidy.proofs.pages.put_page.Statement.{statement}
 use Rattle.tidy.proofs.pages.put_page.Tie as tie
 
-sub-shift : tie.Need-sub-shift
-sub-shift c = omega arith
-
-shl-gather : tie.Need-shl-gather
-shl-gather c = omega arith
-
-add-gather : tie.Need-add-gather
-add-gather c =
-    let s = c .before .before .before in
-    omega (arith, under-range (s .pre .0) (s .args .j) (s .args .l) (s .pre .2), entries-most (s .pre .0))
-
-gather-requires : tie.Need-gather-requires
-gather-requires c κs =
-    let s = c .before .before .before .before in
+page-on-requires : tie.Need-page-on-requires
+page-on-requires c κs =
+    let s = c .before .before in
     let q = s .pre in
-    (q .0, under-range (q .0) (s .args .j) (s .args .l) (q .2), q .3, under-few (q .0) (s .args .j) (s .args .l) (q .4))
+    (q .0, under-first (q .0) (s .args .j) (s .args .l) (q .2))
 
-shr-close : tie.Need-shr-close
-shr-close c = omega arith
+depth-requires : tie.Need-depth-requires
+depth-requires c κs = omega arith
 
-close-requires : tie.Need-close-requires
-close-requires c κs =
-    let s = c .before .before .before .before .before .before .before .before in
-    let q = s .pre in
-    let g = c .before .before .before .gather in
-    let few = under-few (q .0) (s .args .j) (s .args .l) (q .4) in
-    (omega (arith, g .ensures .0, g .kept, few, q .3), omega (arith, q .0 .heads .limits .depth, q .1), omega (arith, g .ensures .0, few, q .0 .heads .limits .capacity .1))
+copy-requires : tie.Need-copy-requires
+copy-requires c κs = omega arith
+
+put-joined-requires : tie.Need-put-joined-requires
+put-joined-requires c κs = c .before .before .before .before .before .before .pre
 
 same-length : tie.Need-same-length
-same-length c = search needs
+same-length c = omega arith
 
 returns : tie.Need-returns
 returns c =
-    let s = c .before .before .before .before .before .before .before .before .before .before .before in
+    let d = c .before .before .before .before .before in
+    let s = d .before .before .before .before in
     let q = s .pre in
-    let g = c .before .before .before .before .before .before .gather in
-    c .before .before .close .ensures ∙ under-closed (q .0) (s .args .j) (s .args .l) (s .args .out .now) _ _ (q .3) (q .4) (g .ensures .0) (g .ensures .1)
+    c .before .before .copy .ensures
+    ∙ under-own (q .0) (s .args .j) (s .args .l) (s .args .out .now) (under-first (q .0) (s .args .j) (s .args .l) (q .2)) (d .before .page-on .ensures)
+    (sym (d .depth .ensures .0) ∙ c .before .before .before .before .if1 .taken) (q .3)
+
+same-length-2 : tie.Need-same-length-2
+same-length-2 c = omega arith
+
+returns-2 : tie.Need-returns-2
+returns-2 c = c .before .before .put-joined .ensures
 
 pub put-page-spec : {M : Type 1} → statement M
-put-page-spec = tie.close (tie.spec sub-shift shl-gather add-gather gather-requires shr-close close-requires same-length returns)
+put-page-spec = tie.close (tie.spec page-on-requires depth-requires copy-requires put-joined-requires same-length returns same-length-2 returns-2)
