@@ -21,7 +21,7 @@ use Rattle.spec.specs.Bytes.{AreBytes}
 use Rattle.spec.specs.Proper.{FileOk}
 use Rattle.spec.specs.Claims.{Accepted, answerAt}
 use Rattle.spec.specs.Months.{Taken, asItIs, tidied, Follows, Months, last, month, lastOf, answersIn, fedLog, feed, MonthsTogether}
-use Rattle.laws.specs.Tools.{if-case, if-both}
+use Rattle.laws.specs.Tools.{if-both}
 use Rattle.laws.specs.Codec.Accepted.{accepted-file}
 use Rattle.laws.specs.Turns.Records.{added-own, added-other, without-own, without-other, same-has}
 use Rattle.laws.specs.Turns.Contents.{contents-lookup, contents-twice}

@@ -12,11 +12,12 @@ use lib.Pow.{shr-lt}
 use Rattle.spec.specs.File.{File}
 use Rattle.spec.specs.Decode.{fileOf}
 use Rattle.laws.specs.Tidy.Entries.{recordsAt, recordsBefore, recordsUnder, depthFrom, depthOn, depthsLeft}
-use Rattle.laws.specs.Tidy.Spans.{before-zero, before-step, before-mono, entries-in}
+use Rattle.laws.specs.Tidy.Spans.{before-zero, before-step, before-mono}
+use Rattle.laws.specs.Tidy.Ranges.{entries-in}
 use Rattle.laws.specs.Tidy.Depths.{depth-here, depth-next, depth-last, depths-end, depths-step}
 use Rattle.header.specs.declared.Header.{Header}
 use Rattle.tidy.specs.Given.{Given, Climbs, Counted}
-use Rattle.tidy.proofs.Known.{shifted, depth-is, capacity-is}
+use Rattle.tidy.proofs.Known.{run-of, depth-is, capacity-is}
 
 -- those up to entry j are there
 abbrev pub Upto : File → ℕ → List ℕ → Type 0
@@ -43,7 +44,7 @@ pub counted-climbs : {h : Header} {b : List ℕ} (e : Given h b) (s : List ℕ) 
 counted-climbs {h} {b} e s c l =
     let g = depth-is e in
     record {
-      size = omega (arith, shifted (h .depth) (e .heads .limits .depth) .1);
+      size = omega (arith, run-of (h .depth) (e .heads .limits .depth) .few);
       climbs = λ i j u v. rw (c i (rw g (omega arith)), c j (rw g v)) (before-mono (fileOf b) i j u);
     }
 
@@ -56,12 +57,12 @@ pub record Block (g l j n : ℕ) : Type 0 where
 
 pub block : (g l j n : ℕ) → g ≤ 8 → l ≤ g → j < 2 ^ g → n ≡ 1 * 2 ^ (g - l) % 2 ^ 64 → Block g l j n
 block g l j n deep low u e =
-    let m = shifted (g - l) (omega arith) in
+    let m = run-of (g - l) (omega arith) in
     let z : l + (g - l) ≡ g = omega arith in
     let p = shr-lt {n = j} l (g - l) (rw z u) in
-    let is : n ≡ 2 ^ (g - l) = e ∙ m .0 in
+    let is : n ≡ 2 ^ (g - l) = e ∙ m .is in
     let one : (j / 2 ^ (g - l) + 1) * n ≡ j / 2 ^ (g - l) * n + n = add-mul (j / 2 ^ (g - l)) n in
-    record { run = is; few = omega (arith, m .1); within = rw (← one, is) (entries-in g l (j / 2 ^ (g - l)) low p); small = shifted g deep .1 }
+    record { run = is; few = omega (arith, m .is, m .few); within = rw (← one, is) (entries-in g l (j / 2 ^ (g - l)) low p); small = run-of g deep .few }
 
 -- so many records lie under it
 pub under-is

@@ -35,7 +35,7 @@ use Rattle.page.specs.Image.{closed}
 use Rattle.page.specs.ImageLaws.{owns, closed-image}
 use Rattle.page.specs.KeepLaws.{records-fit, records-back}
 use Rattle.tidy.specs.Given.{Given, Shows}
-use Rattle.tidy.proofs.Known.{shown-depth, count-shown, shifted, depth-is}
+use Rattle.tidy.proofs.Known.{shown-depth, count-shown, run-of, depth-is}
 
 -- ---- the records of a page, put among the first n of another
 
@@ -95,7 +95,7 @@ module _ {f : File} {from to : ℕ} {s t : List ℕ} {n j : ℕ} (g : Gathers f 
   gathers-length = ap length (g .bytes) ∙ length-over s 4 (each recordBytes (merged [] (g .rs)))
 
   -- the next page's are among those that are asked for
-  pub gathers-few : j < to → n + length (pageOn f j .records) ≤ length (gathered f from to)
+  gathers-few : j < to → n + length (pageOn f j .records) ≤ length (gathered f from to)
   gathers-few l =
       let q = pageOn f j .records in
       let rest = gathered f (j + 2 ^ (f .g - pageOn f j .depth)) to in
@@ -135,8 +135,8 @@ module _ {f : File} {from to : ℕ} {s t : List ℕ} {n j : ℕ} (g : Gathers f 
 -- a step is of 1 to 256 entries, and so many there are
 pub run-range : {h : Header} {b : List ℕ} → Given h b → (d : ℕ) → (1 ≤ 1 * 2 ^ (h .depth - d) % 2 ^ 64) × (1 * 2 ^ (h .depth - d) % 2 ^ 64 ≤ 256)
 run-range {h} e d =
-    let run = shifted (h .depth - d) (omega (arith, e .heads .limits .depth)) in
-    (omega (arith, run .0, pow-pos (h .depth - d)), omega (arith, run .0, run .1))
+    let run = run-of (h .depth - d) (omega (arith, e .heads .limits .depth)) in
+    (omega (arith, run .is, pow-pos (h .depth - d)), omega (arith, run .is, run .few))
 
 pub entries-most : {h : Header} {b : List ℕ} → Given h b → 2 ^ h .depth ≤ 256
 entries-most e = pow-mono (e .heads .limits .depth)
@@ -164,8 +164,8 @@ module _ {h : Header} {b : List ℕ} (e : Given h b) {from to : ℕ} {s t : List
       → Gathers (fileOf b) from to s u m (j + 1 * 2 ^ (h .depth - d) % 2 ^ 64)
   unfolding pageOn
   step-more u m d room written many deep =
-      let run = shifted (h .depth - d) (omega (arith, e .heads .limits .depth)) in
-      rw (written, many, run .0, deep, there .is, ← depth-is e)
+      let run = run-of (h .depth - d) (omega (arith, e .heads .limits .depth)) in
+      rw (written, many, run .is, deep, there .is, ← depth-is e)
       (gathers-more g l (page-records-fit b (entryAt (fileOf b) j) (e .bytes)) room)
 
 -- ---- the page of depth l whose first entry is j
@@ -176,10 +176,10 @@ module _ {h : Header} {b : List ℕ} (e : Given h b) (j l : ℕ) where
 
   from-under : pageFrom (fileOf b) j l ≡ record { depth = l; pattern = j / 2 ^ (h .depth - l); records = merged [] under }
   unfolding pageFrom
-  from-under = rw (shifted (h .depth - l) (omega (arith, e .heads .limits .depth)) .0, depth-is e)
+  from-under = rw (run-of (h .depth - l) (omega (arith, e .heads .limits .depth)) .is, depth-is e)
 
   pub under-range : j + 2 ^ (h .depth - l) ≤ 2 ^ h .depth → j + 1 * 2 ^ (h .depth - l) % 2 ^ 64 ≤ 2 ^ h .depth
-  under-range k = omega (arith, shifted (h .depth - l) (omega (arith, e .heads .limits .depth)) .0)
+  under-range k = omega (arith, run-of (h .depth - l) (omega (arith, e .heads .limits .depth)) .is)
 
   pub under-few : length (pageFrom (fileOf b) j l .records) ≤ h .capacity → length under ≤ h .capacity
   under-few k = omega (arith, ap (λ (q : Page). length (q .records)) from-under, merged-length [] under)

@@ -28,21 +28,17 @@ shown-depth s = refl
 pub count-shown : (s : List ℕ) → byte s 1 ≡ length (pageOf s .records)
 count-shown s = sym (ap length (records-all s) ∙ records-length s 0 (byte s 1))
 
--- a shift of 1 by at most 8 places
-pub shifted : (n : ℕ) → n ≤ 8 → (1 * 2 ^ n % 2 ^ 64 ≡ 2 ^ n) × (2 ^ n ≤ 256)
-shifted n l =
-    let m : 2 ^ n ≤ 2 ^ 8 = pow-mono l in
-    let z : 1 * 2 ^ n ≡ 2 ^ n = omega arith in
-    (rw z (mod-eq-of-lt (omega arith)), m)
-
--- as code has it: the number of a page's entries
+-- 1 shifted by at most 8 places: the number of a page's entries
 pub record Run (n : ℕ) : Type 0 where
   pub is : 1 * 2 ^ n % 2 ^ 64 ≡ 2 ^ n
   pub few : 2 ^ n ≤ 256
   pub some : 0 < 2 ^ n
 
 pub run-of : (n : ℕ) → n ≤ 8 → Run n
-run-of n l = let m = shifted n l in record { is = m .0; few = m .1; some = pow-pos n }
+run-of n l =
+    let m : 2 ^ n ≤ 2 ^ 8 = pow-mono l in
+    let z : 1 * 2 ^ n ≡ 2 ^ n = omega arith in
+    record { is = rw z (mod-eq-of-lt (omega arith)); few = m; some = pow-pos n }
 
 module _ {h : Header} {b : List ℕ} (e : Given h b) where
   pub depth-is : fileOf b .g ≡ h .depth
@@ -100,16 +96,16 @@ module _ {h : Header} {b : List ℕ} (e : Given h b) where
 
     pub run-fits : p < 65536 → p * run ≤ 16776960
     run-fits l =
-        let m = shifted (h .depth - d) shallow in
-        let r : run ≤ 256 = omega (arith, m .0, m .1) in
+        let m = run-of (h .depth - d) shallow in
+        let r : run ≤ 256 = omega (arith, m .is, m .few) in
         let q : p ≤ 65535 = omega arith in
         mul-le-mul q r
 
     first : firstEntry (fileOf b .g) (pageOn (fileOf b) j) ≡ p * run
     unfolding firstEntry
     first =
-        let m = shifted (h .depth - d) shallow in
-        rw (← there .is, ← deep, ← pattern, depth-is, is, m .0)
+        let m = run-of (h .depth - d) shallow in
+        rw (← there .is, ← deep, ← pattern, depth-is, is, m .is)
 
     pub at-first : (n : ℕ) → n ≡ length (pageOf s .records) → p * run ≡ j → (n ≡ recordsAt (fileOf b) j) × (n ≤ 8)
     at-first n c z =

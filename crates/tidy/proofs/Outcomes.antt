@@ -1,18 +1,16 @@
 -- What a call comes to, refused or done, step by step.
 use Prim.Native.Nat.{ℕ, _+_, _≤_}
-use mathlib.Core.Path.{_≡_, refl, sym, ap, _∙_}
-use mathlib.Core.Bool.{not}
+use mathlib.Core.Path.{_≡_, ap, _∙_}
 use mathlib.Core.List.{List, _++_}
 use mathlib.Core.Option.{Option, none, some}
 use native.Mathlib.Omega.{arith}
 use lib.ListN.{length, drop}
-use lib.Dec.{eqb}
 use borrow.Author.Tests.{eq-eqb, ne-eqb}
 use Rattle.spec.specs.declared.Outcome.{Outcome}
 use Rattle.spec.specs.declared.Outcome.the-variants.{Done, Refused}
 use Rattle.spec.specs.Basics.{when, orElse}
 use Rattle.spec.specs.Bytes.{AreBytes}
-use Rattle.spec.specs.Decode.{headerOf, fileOf, jobOf}
+use Rattle.spec.specs.Decode.{headerOf, jobOf}
 use Rattle.spec.specs.Check.{Fault, numbered, jobFault}
 use Rattle.spec.specs.Outcome.{outcomeBy, afterCall, bufferBy}
 use Rattle.spec.specs.Tidy.{tidyBytes, opsPresent, tidyFault, tidyOutcome, tidyBuffer}

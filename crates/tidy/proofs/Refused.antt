@@ -42,7 +42,7 @@ unfolding anyDeeper
 deeper-later d l ls h = rw (le-ltb d l h)
 
 -- it is refusal 19's walk over the pages left
-pub deeper-pages : (d x : ℕ) (ps : List Page) → anyDeeper d (map (λ (q : Page). q .depth) ps) ≡ anyOf (isDeeper d) x ps
+deeper-pages : (d x : ℕ) (ps : List Page) → anyDeeper d (map (λ (q : Page). q .depth) ps) ≡ anyOf (isDeeper d) x ps
 unfolding anyDeeper anyOf isDeeper
 deeper-pages d x [] = refl
 deeper-pages d x (p ∷ ps) = ap (λ r. ltb d (p .depth) || r) (deeper-pages d (suc x) ps)

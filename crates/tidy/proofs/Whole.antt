@@ -1,10 +1,10 @@
 -- Header, directory and pages, one behind another, are the tidied file's bytes.
-use Prim.Native.Nat.{ℕ, zero, suc, _+_, _-_, _*_, _^_, _≤_}
-use mathlib.Core.Path.{_≡_, refl, sym, ap, _∙_}
-use mathlib.Core.List.{List, [], _∷_, _++_, append-assoc, append-nil}
+use Prim.Native.Nat.{ℕ, zero, suc, _+_, _-_, _*_, _^_}
+use mathlib.Core.Path.{_≡_, sym, ap, _∙_}
+use mathlib.Core.List.{List, [], _++_, append-nil}
 use native.Mathlib.Omega.{arith}
 use native.Mathlib.Nat.{add-comm, sub-zero, mul-zero, mul-suc}
-use lib.ListN.{length, replicate, length-append, length-replicate, replicate-append-replicate}
+use lib.ListN.{length, replicate, replicate-append-replicate}
 use Rattle.spec.specs.Basics.{each}
 use Rattle.spec.specs.Bytes.{two}
 use Rattle.spec.specs.File.{Page, File, zeroPage}
@@ -69,7 +69,7 @@ module _ {h : Header} {b : List ℕ} (e : Given h b) (left : List ℕ) (is : lef
       rw (as-many e left is, owners e left is d (omega (arith, w .most)) (w .least), ← capacity-is e, ← pages-is e)
       (parts (fileOf b) (pagesLeft (fileOf b)) d)
 
-  pub directory-length : length directory ≡ 2 * 2 ^ d
+  directory-length : length directory ≡ 2 * 2 ^ d
   directory-length = length-twos (spread d left 1) ∙ rw (← spread-length d left 1, fills e left is d (w .least) .total)
 
   pub written

@@ -11,13 +11,14 @@ use borrow.Author.Tests.{lt-ltb, le-ltb, le-leb, lt-leb}
 use Rattle.spec.specs.File.{Page, File}
 use Rattle.spec.specs.Proper.{FileOk}
 use Rattle.spec.specs.Tidy.{pagesLeft}
-use Rattle.laws.specs.Tools.{if-case, if-true, if-false}
+use Rattle.laws.specs.Tools.{if-true, if-false}
 use Rattle.laws.specs.Tidy.Entries.{recordsUnder, depthFrom, depthOn, depthsFrom, depthsLeft}
 use Rattle.laws.specs.Tidy.Tiles.{tiles-some}
 use Rattle.laws.specs.Tidy.Twins.{joined-depth, joined-length}
 use Rattle.laws.specs.Tidy.Left.{is-pair, Left, own, pair, apart, pages-left}
 use Rattle.laws.specs.Tidy.Kept.{twins, left-tiles}
-use Rattle.laws.specs.Tidy.Spans.{held, held-one, few-one, low-entries, high-entries, entries-in, left-deep, left-small, under}
+use Rattle.laws.specs.Tidy.Ranges.{low-entries, high-entries, entries-in, left-deep, left-small}
+use Rattle.laws.specs.Tidy.Spans.{held, held-one, few-one, under}
 
 module _ (f : File) where
   -- the search of the least depth
@@ -44,15 +45,6 @@ module _ (f : File) where
   pub depth-start : (j : ℕ) → depthOn f j ≡ depthFrom (f .g - 0) f j 0
   unfolding depthOn
   depth-start j = ap (λ n. depthFrom n f j 0) (omega arith)
-
-  from-le : (n j l : ℕ) → depthFrom n f j l ≤ l + n
-  unfolding depthFrom
-  from-le zero j l = omega arith
-  from-le (suc n) j l = let u = from-le n j (suc l) in if-case (λ m. m ≤ l + suc n) (λ e. omega arith) (λ e. omega arith)
-
-  pub depth-le : (j : ℕ) → depthOn f j ≤ f .g
-  unfolding depthOn
-  depth-le j = let u = from-le (f .g) j 0 in omega arith
 
   -- the walk: enough fuel is as good as more
   from-end : (n j : ℕ) → 2 ^ f .g ≤ j → depthsFrom n f j ≡ []
@@ -88,7 +80,7 @@ module _ (f : File) where
       ∙ ap (λ ls. depthOn f j ∷ ls) (from-fuel (2 ^ f .g - suc j) (2 ^ f .g - (j + 2 ^ (f .g - depthOn f j))) (j + 2 ^ (f .g - depthOn f j)) (omega arith) (omega arith))
 
   -- a depth is come to if every one below it leaves too many records
-  pub depth-come : (j l : ℕ) → l ≤ f .g → ((n : ℕ) → n < l → f .c < recordsUnder f n j) → depthOn f j ≡ depthFrom (f .g - l) f j l
+  depth-come : (j l : ℕ) → l ≤ f .g → ((n : ℕ) → n < l → f .c < recordsUnder f n j) → depthOn f j ≡ depthFrom (f .g - l) f j l
   depth-come j zero h a = depth-start j
   depth-come j (suc l) h a = depth-come j l (omega arith) (λ n u. a n (omega arith)) ∙ depth-next j l h (a l (omega arith))
 

@@ -33,7 +33,7 @@ module _ (f : File) (ok : FileOk f) (d : ℕ) (w : Wanted d f) where
   pub left-part : Tiles 0 0 (pagesLeft f)
   left-part = left-tiles (pages-left f ok)
 
-  pub left-ok : Each (PageOk d (f .c)) (pagesLeft f)
+  left-ok : Each (PageOk d (f .c)) (pagesLeft f)
   left-ok =
       each-imp₂ (λ q h r. record { deep = h; small = r .ok .small; room = r .ok .room; homed = r .ok .homed; callsRise = r .ok .callsRise }) (w .least)
       (left-right f ok)
@@ -70,8 +70,8 @@ module _ (f : File) (ok : FileOk f) (d : ℕ) (w : Wanted d f) where
   pub tidy-fits : RecordsFit f → RecordsFit (tidyFile d f)
   tidy-fits = tidy-records RecFits
 
-  -- IT HOLDS THE SAME CALLS WITH THE SAME CHARGES, and none twice
-  pub tidy-lookup : (k : ℕ) → lookup (tidyFile d f) k ≡ lookup f k
+  -- IT HOLDS THE SAME CALLS WITH THE SAME CHARGES
+  tidy-lookup : (k : ℕ) → lookup (tidyFile d f) k ≡ lookup f k
   unfolding tidyFile
   tidy-lookup =
       laid-lookup d f (pagesLeft f) (ok .fit) (w .most) left-part left-ok few (λ k o. o ≡ lookup f k) (each-imp (λ q r. r .finds) (left-right f ok))
@@ -84,6 +84,3 @@ module _ (f : File) (ok : FileOk f) (d : ℕ) (w : Wanted d f) where
     same-has _ _ (holds-once (tidyFile d f) tidy-ok) same-find r,
     same-has _ _ (holds-once f ok) (λ k. sym (same-find k)) r,
   )
-
-  pub tidy-once : NoneTwice (contents (tidyFile d f))
-  tidy-once = holds-once (tidyFile d f) tidy-ok

@@ -1,31 +1,29 @@
 -- The records of a page left, gathered along the directory: those of the file's pages under its pattern, by their first entries, put in order.
-use Prim.Native.Nat.{ℕ, zero, suc, _+_, _-_, _*_, _/_, _^_, _<_, _≤_}
+use Prim.Native.Nat.{ℕ, zero, suc, _+_, _-_, _*_, _^_, _<_, _≤_}
 use mathlib.Core.Path.{_≡_, refl, sym, ap, _∙_}
-use mathlib.Core.Logic.{inl, inr, ⊎-elim, by-cases}
+use mathlib.Core.Logic.{inl, inr, ⊎-elim}
 use mathlib.Core.List.{List, [], _∷_, _++_, append-assoc, append-nil}
 use native.Mathlib.Omega.{arith}
-use native.Mathlib.Nat.{mul-le-mul-right}
-use native.Mathlib.Decide.{decLt}
 use lib.ListN.{length, getD, length-append}
-use lib.Pow.{pow-pos, pow-add, high, shl-shr}
-use borrow.Author.Tests.{eqb-true, lt-ltb, le-ltb, eq-eqb}
+use lib.Pow.{pow-pos, shl-shr}
+use borrow.Author.Tests.{lt-ltb, le-ltb, eqb-true}
 use Rattle.spec.specs.declared.Rec.{Rec}
 use Rattle.spec.specs.Basics.{Each, end, next}
 use Rattle.spec.specs.Key.{begins}
 use Rattle.spec.specs.File.{Page, File, zeroPage, pageAt, entryAt, findIn}
 use Rattle.spec.specs.PlainList.{NoneTwice}
-use Rattle.spec.specs.Proper.{PageNo, PageOk, FileOk}
+use Rattle.spec.specs.Proper.{PageNo, FileOk}
 use Rattle.spec.specs.Tidy.{firstEntry, merged, joinPages, pagesLeft}
 use Rattle.laws.specs.Tools.{if-true, if-false, if-both, each-append, each-at}
 use Rattle.laws.specs.Turns.Records.{join-twice}
 use Rattle.laws.specs.Turns.CallsRise.{rise-once}
-use Rattle.laws.specs.Tidy.Merged.{Apart, merged-length, merged-append, sorted-find, sorted-same, merged-sorted}
+use Rattle.laws.specs.Tidy.Merged.{Apart, merged-append, sorted-find, sorted-same, merged-sorted}
 use Rattle.laws.specs.Tidy.Tiles.{tiles-some, tiles-one}
 use Rattle.laws.specs.Tidy.Twins.{Twins, apart as twins-apart}
 use Rattle.laws.specs.Tidy.Left.{is-pair, Left, own, pair, apart, pages-left}
-use Rattle.laws.specs.Tidy.Kept.{twins, left-tiles, left-each, Right, page-right, joined-right, left-right}
+use Rattle.laws.specs.Tidy.Kept.{twins, left-tiles, left-each, Right, page-right, joined-right}
 use Rattle.laws.specs.Tidy.Entries.{pageOn, recordsFrom, gathered, pageFrom}
-use Rattle.laws.specs.Tidy.Starts.{twice}
+use Rattle.laws.specs.Tidy.Ranges.{twice, left-deep, entryFrom, own-page}
 
 -- ---- the steps of the walk
 
@@ -55,47 +53,6 @@ gathered-step f j e l =
     ∙ ap (λ rs. pageOn f j .records ++ rs) (fuel (e - j - 1) (e - (j + s)) f (j + s) e (omega arith) (omega arith))
 
 -- ---- the pages in use under a pattern, in the directory
-
--- a page's entries are entries of the directory
-pub page-range : (g c : ℕ) (q : Page) → PageOk g c q → firstEntry g q + 2 ^ (g - q .depth) ≤ 2 ^ g
-unfolding firstEntry
-page-range g c q h =
-    let z : q .depth + (g - q .depth) ≡ g = omega (arith, h .deep) in
-    let s = mul-le-mul-right (2 ^ (g - q .depth)) (h .small) in
-    let t = pow-add 2 (q .depth) (g - q .depth) in
-    let w : firstEntry g q + 2 ^ (g - q .depth) ≤ 2 ^ (q .depth + (g - q .depth)) = omega (arith, s, t) in
-    rw z at w
-
--- a page of the file, by its number: its first entry, and the entry behind its last
-abbrev pub entryFrom : File → ℕ → ℕ
-entryFrom f x = firstEntry (f .g) (pageAt f x)
-
-abbrev pub entryTo : File → ℕ → ℕ
-entryTo f x = entryFrom f x + 2 ^ (f .g - pageAt f x .depth)
-
--- a page's entries all name it
-pub range-entry : (f : File) → FileOk f → (x j : ℕ) → PageNo f x → entryFrom f x ≤ j → j < entryTo f x → entryAt f j ≡ x
-unfolding firstEntry begins
-range-entry f ok x j n a b =
-    let q = pageAt f x in
-    let d = f .g - q .depth in
-    let r = page-range (f .g) (f .c) q (ok .pages x n) in
-    let z : q .pattern * 2 ^ d + (j - q .pattern * 2 ^ d) ≡ j = omega arith in
-    let e : j / 2 ^ d ≡ q .pattern = rw z at (high (q .pattern) d {lo = j - q .pattern * 2 ^ d} (omega arith)) in
-    ok .owner j x (omega arith) n (eq-eqb _ _ e)
-
-pub range-page : (f : File) → FileOk f → (x j : ℕ) → PageNo f x → entryFrom f x ≤ j → j < entryTo f x → pageOn f j ≡ pageAt f x
-unfolding pageOn
-range-page f ok x j n a b = ap (pageAt f) (range-entry f ok x j n a b)
-
-pub own-page : (f : File) → FileOk f → (x : ℕ) → PageNo f x → pageOn f (entryFrom f x) ≡ pageAt f x
-own-page f ok x n = let pos = pow-pos (f .g - pageAt f x .depth) in range-page f ok x _ n (omega arith) (omega arith)
-
--- a pattern that the pages left came about under has no more bits than the directory's entries
-pub left-deep : (f : File) → FileOk f → {l p : ℕ} {ps : List Page} → Left f l p ps → l ≤ f .g
-left-deep f ok (own {x = x} n d e) = omega (arith, ok .pages x n .deep)
-left-deep f ok (pair h s t e) = let a = left-deep f ok s in omega arith
-left-deep f ok (apart h s t e) = let a = left-deep f ok s in omega arith
 
 -- the records of those pages, one page behind the other
 unfoldable raw : {f : File} {l p : ℕ} {ps : List Page} → Left f l p ps → List Rec
@@ -236,67 +193,6 @@ module _ (f : File) (ok : FileOk f) where
   -- THE RECORDS OF A PAGE LEFT
   pub left-gathered : (m : ℕ) → m < length (pagesLeft f) → merged [] (gathered f (leftFrom f m) (leftTo f m)) ≡ leftPage f m .records
   left-gathered m l = sole-records _ (each-at (pagesLeft f) m zeroPage l (by-itself (pages-left f ok)))
-
-  pub left-gathered-length : (m : ℕ) → m < length (pagesLeft f) → length (gathered f (leftFrom f m) (leftTo f m)) ≡ length (leftPage f m .records)
-  left-gathered-length m l = omega (arith, merged-length [] (gathered f (leftFrom f m) (leftTo f m)), ap length (left-gathered m l))
-
-  -- all of its entries are in the directory
-  pub left-range : (m : ℕ) → m < length (pagesLeft f) → leftTo f m ≤ 2 ^ g
-  left-range m l = page-range g (f .c) (leftPage f m) (each-at (pagesLeft f) m zeroPage l (left-right f ok) .ok)
-
-  -- so each of them names a page in use
-  pub left-named : (m j : ℕ) → m < length (pagesLeft f) → j < leftTo f m → PageNo f (entryAt f j)
-  unfolding entryAt
-  left-named m j l h = ok .fit .entries j (omega (arith, left-range m l))
-
-  -- a page in use whose first entry is under a pattern has all its entries there
-  abbrev Ends : ℕ → ℕ → Type 0
-  Ends l p =
-      (x : ℕ)
-      → PageNo f x
-      → p * 2 ^ (g - l) ≤ entryFrom f x
-      → entryFrom f x < (p + 1) * 2 ^ (g - l)
-      → entryTo f x ≤ (p + 1) * 2 ^ (g - l)
-
-  ends-own : (y l p : ℕ) → PageNo f y → pageAt f y .depth ≡ l → pageAt f y .pattern ≡ p → Ends l p
-  unfolding firstEntry
-  ends-own y l p n d i x m a b =
-      let at : p * 2 ^ (g - l) ≡ entryFrom f y = rw (d, i) in
-      let to = past p (2 ^ (g - l)) in
-      let u : entryFrom f y ≤ entryFrom f x = rw (← at) a in
-      let v : entryFrom f x < entryTo f y = rw (← at, d) (omega arith) in
-      let w : pageAt f x ≡ pageAt f y = sym (own-page f ok x m) ∙ range-page f ok y (entryFrom f x) n u v in
-      rw w (rw (← at, d) (omega arith))
-
-  ends-halves : (l p : ℕ) → l < g → Ends (suc l) (2 * p) → Ends (suc l) (2 * p + 1) → Ends l p
-  ends-halves l p h s t x n a b =
-      let w = twice g l h in
-      let (from, to) = half-ends p (2 ^ (g - suc l)) in
-      let a' : 2 * p * 2 ^ (g - suc l) ≤ entryFrom f x = rw (w, from) at a in
-      let b' : entryFrom f x < (2 * p + 1 + 1) * 2 ^ (g - suc l) = rw (w, to) at b in
-      rw (w, to)
-      (by-cases (decLt (entryFrom f x) ((2 * p + 1) * 2 ^ (g - suc l)))
-      (λ i. let r = s x n a' i in omega arith)
-      (λ i. t x n (omega arith) b'))
-
-  ends : {l p : ℕ} {ps : List Page} → Left f l p ps → Ends l p
-  ends {l} {p} (own {x = y} n d e) = ends-own y l p n d e
-  ends {l} {p} (pair h s t e) = ends-halves l p (left-deep f ok s) (ends s) (ends t)
-  ends {l} {p} (apart h s t e) = ends-halves l p (left-deep f ok s) (ends s) (ends t)
-
-  -- and so a step of the walk from a page's first entry goes no further than the page left
-  pub left-step
-      : (m x : ℕ)
-      → m < length (pagesLeft f)
-      → PageNo f x
-      → leftFrom f m ≤ entryFrom f x
-      → entryFrom f x < leftTo f m
-      → entryTo f x ≤ leftTo f m
-  unfolding firstEntry
-  left-step m x l n a b =
-      let q = leftPage f m in
-      let e = past (q .pattern) (2 ^ (g - q .depth)) in
-      rw (← e) (ends (each-at (pagesLeft f) m zeroPage l (by-itself (pages-left f ok))) x n a (rw e b))
 
   -- a page of the file, made of its depth and of an entry that names it
   pub own-from : (j : ℕ) → j < 2 ^ g → pageFrom f j (pageOn f j .depth) ≡ pageOn f j

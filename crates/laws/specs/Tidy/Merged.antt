@@ -81,10 +81,10 @@ merged-snoc xs (b ∷ ys) a = merged-snoc (putIn xs b) ys a
 pub sorted-find : (ys : List Rec) (k : ℕ) → NoneTwice ys → findIn (merged [] ys) k ≡ findIn ys k
 sorted-find ys k t = merged-right [] ys k t (find-nil k)
 
-pub sorted-rise : (ys : List Rec) → NoneTwice ys → CallsRise (merged [] ys)
+sorted-rise : (ys : List Rec) → NoneTwice ys → CallsRise (merged [] ys)
 sorted-rise ys t = merged-rise [] ys flat t (λ k. inl (find-nil k))
 
-pub sorted-apart : (xs ys : List Rec) → NoneTwice ys → Apart xs (merged [] ys) → Apart xs ys
+sorted-apart : (xs ys : List Rec) → NoneTwice ys → Apart xs (merged [] ys) → Apart xs ys
 sorted-apart xs ys t d k = ⊎-elim inl (λ q. inr (sym (sorted-find ys k t) ∙ q)) (d k)
 
 pub sorted-same : (ys : List Rec) → CallsRise ys → merged [] ys ≡ ys

@@ -13,7 +13,7 @@ use Rattle.laws.specs.Tidy.Tiles.{each-left, each-right, each-has, Tiles
 use Rattle.laws.specs.Tidy.Left.{pages-left}
 use Rattle.laws.specs.Tidy.Kept.{left-tiles, left-right}
 use Rattle.laws.specs.Tidy.Order.{any-order}
-use Rattle.laws.specs.Tidy.Spans.{low-entries, high-entries}
+use Rattle.laws.specs.Tidy.Ranges.{low-entries, high-entries, tiles-under}
 
 -- ---- pages that part a pattern stand so
 
@@ -34,17 +34,13 @@ joined-order d m (x ∷ xs) ys (before a h) k low high =
     before (each-append xs ys a (each-imp (λ q u. omega arith) high)) (joined-order d m xs ys h k (rest low) high)
 
 module _ (d : ℕ) where
-  shallow : {l p : ℕ} {ps : List Page} → Tiles l p ps → Each (λ q. q .depth ≤ d) ps → l ≤ d
-  shallow (whole a b) deep = omega (arith, first deep)
-  shallow (halves {xs = xs} {ys = ys} h s t) deep = let z = shallow s (each-left xs ys deep) in omega arith
-
   among : {l p : ℕ} {ps : List Page} → Tiles l p ps → Each (λ q. q .depth ≤ d) ps → Each (Among d l p) ps
   unfolding firstEntry
   among {l} {p} (whole {q = q} a b) deep =
       let z = pow-pos (d - l) in
       next {x = q} (rw (a, b) (omega arith, omega arith)) end
   among {l} {p} (halves {xs = xs} {ys = ys} h s t) deep =
-      let u : l < d = shallow s (each-left xs ys deep) in
+      let u : l < d = tiles-under d s (each-left xs ys deep) in
       let low = low-entries d l p u in
       let high = high-entries d l p u in
       each-append xs ys (each-imp (λ q i. (omega (arith, i .0), omega (arith, i .1))) (among s (each-left xs ys deep)))

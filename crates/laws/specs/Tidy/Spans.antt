@@ -1,21 +1,20 @@
 -- How many records lie under a pattern, counted along the entries: the laws of the count, one entry at a time and under a pattern of which pages are left.
-use Prim.Native.Nat.{ℕ, zero, suc, _+_, _-_, _*_, _/_, _^_, _<_, _≤_}
+use Prim.Native.Nat.{ℕ, zero, suc, _+_, _-_, _*_, _^_, _<_, _≤_}
 use mathlib.Core.Path.{_≡_, refl, sym, ap, _∙_}
 use mathlib.Core.Logic.{by-cases}
 use mathlib.Core.List.{List, [], _∷_, _++_}
 use mathlib.Core.Bool.{false≢true}
 use native.Mathlib.Omega.{arith}
 use native.Mathlib.Decide.{ℕ-discrete}
-use native.Mathlib.Nat.{pow-suc, mul-le-mul-right}
 use lib.ListN.{length, getD}
-use lib.Pow.{pow-mono, pow-pos, pow-add, high}
+use lib.Pow.{pow-mono, pow-pos}
 use borrow.Author.Tests.{eq-eqb, ne-eqb}
-use Rattle.spec.specs.Key.{begins}
 use Rattle.spec.specs.File.{Page, File, zeroPage, pageAt, entryAt}
 use Rattle.spec.specs.Proper.{PageNo, FileOk}
 use Rattle.spec.specs.Tidy.{firstEntry, joinPages}
 use Rattle.laws.specs.Tools.{if-case, if-true, if-false}
 use Rattle.laws.specs.Tidy.Entries.{pageOn, recordsAt, recordsBefore, recordsUnder}
+use Rattle.laws.specs.Tidy.Ranges.{low-entries, high-entries, front, left-deep, range-page}
 use Rattle.laws.specs.Tidy.Twins.{joined-length}
 use Rattle.laws.specs.Tidy.Left.{is-pair, pair-is, Left, own, pair, apart}
 use Rattle.laws.specs.Tidy.Kept.{twins, left-tiles}
@@ -47,7 +46,7 @@ module _ (f : File) where
 
   -- of a proper file
   module _ (ok : FileOk f) where
-    pub at-most : (j : ℕ) → j < 2 ^ f .g → recordsAt f j ≤ 8
+    at-most : (j : ℕ) → j < 2 ^ f .g → recordsAt f j ≤ 8
     unfolding recordsAt pageOn entryAt
     at-most j l =
         let u = ok .pages (entryAt f j) (ok .fit .entries j l) .room in
@@ -70,7 +69,7 @@ unfoldable pub held : List Page → ℕ
 held [] = 0
 held (q ∷ ps) = length (q .records) + held ps
 
-pub held-append : (xs ys : List Page) → held (xs ++ ys) ≡ held xs + held ys
+held-append : (xs ys : List Page) → held (xs ++ ys) ≡ held xs + held ys
 unfolding held
 held-append [] ys = omega arith
 held-append (q ∷ xs) ys = omega (arith, held-append xs ys)
@@ -93,56 +92,18 @@ few-one {f} (apart {xs = xs} {ys = ys} w s t e) h =
     let j = held-one ys y in
     absurd (false≢true (sym e ∙ pair-is (f .c) xs ys (record { one-left = x; one-right = y; few = omega arith })))
 
--- the entries of a pattern: those of its two halves
-wide : (g l : ℕ) → l < g → 2 ^ (g - l) ≡ 2 * 2 ^ (g - suc l)
-wide g l h = let e : g - l ≡ suc (g - suc l) = omega arith in rw (e, pow-suc) (omega arith)
-
-pub low-entries : (g l p : ℕ) → l < g → 2 * p * 2 ^ (g - suc l) ≡ p * 2 ^ (g - l)
-low-entries g l p h = rw (wide g l h) (omega arith)
-
-pub high-entries : (g l p : ℕ) → l < g → (2 * p + 1 + 1) * 2 ^ (g - suc l) ≡ (p + 1) * 2 ^ (g - l)
-high-entries g l p h = rw (wide g l h) (omega arith)
-
-pub entries-in : (g l p : ℕ) → l ≤ g → p < 2 ^ l → (p + 1) * 2 ^ (g - l) ≤ 2 ^ g
-entries-in g l p h s =
-    let e : l + (g - l) ≡ g = omega arith in
-    let u : 2 ^ g ≡ 2 ^ l * 2 ^ (g - l) = rw e at (pow-add 2 l (g - l)) in
-    rw u (mul-le-mul-right (2 ^ (g - l)) (omega arith))
-
-pub front : (g l p j : ℕ) → p * 2 ^ (g - l) ≤ j → j < (p + 1) * 2 ^ (g - l) → j / 2 ^ (g - l) ≡ p
-front g l p j a b =
-    let e : p * 2 ^ (g - l) + (j - p * 2 ^ (g - l)) ≡ j = omega arith in
-    rw e at (high p (g - l) {lo = j - p * 2 ^ (g - l)} (omega arith))
-
 module _ (f : File) (ok : FileOk f) where
   abbrev g : ℕ
   g = f .g
-
-  pub left-deep : {l p : ℕ} {ps : List Page} → Left f l p ps → l ≤ g
-  left-deep (own {x = x} n d e) = rw (← d) (ok .pages x n .deep)
-  left-deep (pair w s t e) = let u = left-deep s in omega arith
-  left-deep (apart w s t e) = let u = left-deep s in omega arith
-
-  pub left-small : {l p : ℕ} {ps : List Page} → Left f l p ps → p < 2 ^ l
-  left-small (own {x = x} n d e) = rw (← d, ← e) (ok .pages x n .small)
-  left-small {l} (pair w s t e) = let u = left-small s in omega (arith, pow-suc 2 l)
-  left-small {l} (apart w s t e) = let u = left-small s in omega (arith, pow-suc 2 l)
 
   -- a page's own entries: the first counts its records, the others nothing
   module _ (l p x : ℕ) (n : PageNo f x) (d : pageAt f x .depth ≡ l) (e : pageAt f x .pattern ≡ p) where
     abbrev w : ℕ
     w = 2 ^ (g - l)
 
-    own-entry : (i : ℕ) → i < w → entryAt f (p * w + i) ≡ x
-    unfolding begins
-    own-entry i h =
-        let o = ok .pages x n in
-        let u = entries-in g l p (rw d at (o .deep)) (rw (d, e) at (o .small)) in
-        ok .owner (p * w + i) x (omega arith) n (rw (d, e) (eq-eqb _ _ (high p (g - l) h)))
-
     own-page : (i : ℕ) → i < w → pageOn f (p * w + i) ≡ pageAt f x
-    unfolding pageOn
-    own-page i h = ap (pageAt f) (own-entry i h)
+    unfolding firstEntry
+    own-page i h = range-page f ok x (p * w + i) n (rw (d, e) (omega arith)) (rw (d, e) (omega arith))
 
     own-start : (i : ℕ) → i < w → firstEntry g (pageOn f (p * w + i)) ≡ p * w
     unfolding firstEntry
@@ -190,10 +151,10 @@ module _ (f : File) (ok : FileOk f) where
       let i = held-one xs (o .one-left) in
       let j = held-one ys (o .one-right) in
       let k = held-one (joinPages (getD xs 0 zeroPage) (getD ys 0 zeroPage) ∷ []) refl in
-      let r = span-halves l p (held xs) (held ys) (left-deep s) (span s) (span t) in
+      let r = span-halves l p (held xs) (held ys) (left-deep f ok s) (span s) (span t) in
       omega arith
   span {l} {p} (apart {xs = xs} {ys = ys} h s t e) =
-      rw (held-append xs ys) (span-halves l p (held xs) (held ys) (left-deep s) (span s) (span t))
+      rw (held-append xs ys) (span-halves l p (held xs) (held ys) (left-deep f ok s) (span s) (span t))
 
   -- so the records under the pattern of any of its entries are those
   pub under

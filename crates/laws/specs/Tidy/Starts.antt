@@ -6,7 +6,7 @@ use mathlib.Core.Logic.{by-cases}
 use mathlib.Core.List.{List, [], _∷_, _++_, map, append-assoc, append-nil}
 use native.Mathlib.Omega.{arith}
 use native.Mathlib.Decide.{decLt}
-use native.Mathlib.Nat.{pow-suc, mod-lt}
+use native.Mathlib.Nat.{mod-lt}
 use lib.ListN.{length, getD, take, replicate, length-append, length-replicate, getD-replicate, length-map, List·getD-append, List·getD-map}
 use lib.Seq.{getD-append-add, take-suc, take-length, length-take-le, ext-getD}
 use lib.Pow.{pow-pos, split}
@@ -19,9 +19,10 @@ use Rattle.laws.specs.Tools.{each-at}
 use Rattle.laws.specs.Key.{index-lt, index-onto}
 use Rattle.laws.specs.Turns.Prefix.{index-prefix}
 use Rattle.laws.specs.Turns.Owners.{newOwner-is}
-use Rattle.laws.specs.Tidy.Tiles.{each-left, each-right, Tiles, whole, halves, tiles-some, tiles-deep, tiles-lone, Covered, tiles-cover}
+use Rattle.laws.specs.Tidy.Tiles.{each-left, each-right, Tiles, whole, halves, tiles-lone, Covered, tiles-cover}
 use Rattle.laws.specs.Tidy.Laid.{length-owners, owners-at}
 use Rattle.laws.specs.Tidy.Entries.{startOf, spread}
+use Rattle.laws.specs.Tidy.Ranges.{twice, tiles-under}
 
 -- ---- where a page begins: the steps
 
@@ -96,10 +97,6 @@ spread-at d (a ∷ ls) x (suc m) i h l =
 
 -- ---- pages that part a pattern
 
--- a pattern of l bits has twice the entries of a half
-pub twice : (d l : ℕ) → l < d → 2 ^ (d - l) ≡ 2 ^ (d - suc l) * 2
-twice d l h = let z : d - l ≡ suc (d - suc l) = omega arith in ap (λ n. 2 ^ n) z ∙ pow-suc 2 (d - suc l)
-
 abbrev depths : List Page → List ℕ
 depths ps = map (λ (q : Page). q .depth) ps
 
@@ -127,19 +124,13 @@ module _ (d : ℕ) where
   abbrev Shallow : List Page → Type 0
   Shallow ps = Each (λ q. q .depth ≤ d) ps
 
-  tiles-under : {l p : ℕ} {ps : List Page} → Tiles l p ps → Shallow ps → l ≤ d
-  tiles-under {ps = ps} t h =
-      let a = each-at ps 0 zeroPage (tiles-some t) (tiles-deep t) in
-      let b = each-at ps 0 zeroPage (tiles-some t) h in
-      omega arith
-
   total : {l p : ℕ} {ps : List Page} → Tiles l p ps → Shallow ps → startOf d (depths ps) (length ps) ≡ 2 ^ (d - l)
   unfolding startOf
   total (whole {q = q} e i) h = rw e (omega arith)
   total {l} (halves {xs = xs} {ys = ys} b s t) h =
       let u = total s (each-left xs ys h) in
       let v = total t (each-right xs ys h) in
-      let w = twice d l (tiles-under s (each-left xs ys h)) in
+      let w = twice d l (tiles-under d s (each-left xs ys h)) in
       rw length-append (start-right d xs ys (length ys) ∙ (omega arith))
 
   -- a page of the pattern begins at its first entry
@@ -169,7 +160,7 @@ module _ (d : ℕ) where
   begins-at {l} {p} (halves {xs = xs} {ys = ys} b s t) h m k =
       let hx = each-left xs ys h in
       let hy = each-right xs ys h in
-      let low = tiles-under s hx in
+      let low = tiles-under d s hx in
       by-cases (decLt m (length xs)) (λ u. begins-left l p xs ys m low u (begins-at s hx m u))
       (λ u.
       let z : length xs + (m - length xs) ≡ m = omega arith in
@@ -183,14 +174,6 @@ module _ (d : ℕ) (ps : List Page) (tiles : Tiles 0 0 ps) (shallow : Each (λ q
 
   pub tiles-total : startOf d (map (λ (q : Page). q .depth) ps) (length ps) ≡ 2 ^ d
   tiles-total = let z : d - 0 ≡ d = omega arith in rw z at (total d tiles shallow)
-
-  pub start-within
-      : (m : ℕ)
-      → m < length ps
-      → startOf d (map (λ (q : Page). q .depth) ps) m + 2 ^ (d - getD (map (λ (q : Page). q .depth) ps) m 0) ≤ 2 ^ d
-  start-within m l =
-      let n = length-map ps (λ (q : Page). q .depth) in
-      omega (arith, start-next d (depths ps) m (omega arith), rw n at (start-le d (depths ps) (suc m)), tiles-total)
 
   -- an entry that the pattern of page m begins has its number
   spread-entry

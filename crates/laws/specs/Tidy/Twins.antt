@@ -2,7 +2,7 @@
 -- as in the one of the two that it is of.
 use Prim.Native.Nat.{ℕ, suc, _+_, _-_, _*_, _/_, _^_, _<_, _≤_}
 use mathlib.Core.Path.{_≡_, refl}
-use mathlib.Core.Logic.{_⊎_, inl, inr, by-cases}
+use mathlib.Core.Logic.{inl, inr, by-cases}
 use mathlib.Core.Option.{Option, none, some}
 use native.Mathlib.Omega.{arith}
 use native.Mathlib.Nat.{pow-suc}
@@ -82,7 +82,7 @@ module _ (l p : ℕ) (a b : Page) (t : Twins l p a b) where
         either _ k i (λ x. rw (merged-left (a .records) (b .records) k (not-held b k homed-b (not-both k x))) (f x))
         (λ x. rw (merged-right (a .records) (b .records) k (rise-once (b .records) up) (not-held a k homed-a (λ y. not-both k y x))) (g x))
 
-    pub joined-homed : Each (λ r. In (joinPages a b) (r .call)) (joinPages a b .records)
+    joined-homed : Each (λ r. In (joinPages a b) (r .call)) (joinPages a b .records)
     unfolding joinPages
     joined-homed =
         merged-each (a .records) (b .records) (each-imp (λ r i. a-joined (r .call) i) homed-a) (each-imp (λ r i. b-joined (r .call) i) homed-b)

@@ -73,7 +73,7 @@ of-nil : (l p : ℕ) → length (ofIndex l p []) ≡ 0
 unfolding ofIndex filter
 of-nil l p = refl
 
-pub halves-sum
+halves-sum
     : (l p : ℕ) (rs : List Rec)
     → l < 32
     → length (ofIndex l p rs) ≡ length (ofIndex (suc l) (2 * p) rs) + length (ofIndex (suc l) (2 * p + 1) rs)

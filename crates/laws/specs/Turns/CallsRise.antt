@@ -89,7 +89,7 @@ found-none : (r : Rec) (rs : List Rec) → findIn (r ∷ rs) (r .call) ≡ none 
 found-none r rs e = none-head r rs (r .call) e refl
 
 -- a call below all of them is not among them
-pub low-none : (rs : List Rec) (k : ℕ) → Each (λ a. k < a .call) rs → findIn rs k ≡ none
+low-none : (rs : List Rec) (k : ℕ) → Each (λ a. k < a .call) rs → findIn rs k ≡ none
 low-none [] k h = find-nil k
 low-none (a ∷ rs) k h = let l = first h in find-miss a rs k (λ e. omega arith) ∙ low-none rs k (rest h)
 

@@ -1,7 +1,6 @@
 -- `tidy_left` meets its contract: refused by 19 or 11, or written.
 use mathlib.Core.Path.{_≡_, sym, _∙_}
 use mathlib.Core.Option.{none}
-use native.Mathlib.Omega.{arith}
 use lib.ListN.{length}
 use borrow.Author.Needs.{needs}
 use Rattle.job.specs.Answer.{accepted, refused}

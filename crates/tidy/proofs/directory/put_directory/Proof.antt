@@ -10,7 +10,7 @@ use Rattle.laws.specs.Tools.{each-at}
 use Rattle.laws.specs.Tidy.Entries.{startOf, spread}
 use Rattle.laws.specs.Tidy.Starts.{start-zero}
 use Rattle.wire.specs.Over.{over}
-use Rattle.tidy.proofs.Known.{shifted}
+use Rattle.tidy.proofs.Known.{run-of}
 use Rattle.tidy.proofs.Table.{runs-none, run-inside, start-more, runs-next, runs-all}
 use Rattle.tidy.proofs.directory.put_directory.Statement.{statement}
 use Rattle.tidy.proofs.directory.put_directory.Tie as tie
@@ -52,7 +52,7 @@ put-entries-requires c κs =
     let l = c .before .before .before .loop in
     let g = t .args .depth in
     let ls = t .args .left .now in
-    let w = shifted (g - getD ls (l .k) 0) (omega arith) .0 in
+    let w = run-of (g - getD ls (l .k) 0) (omega arith) .is in
     omega (arith, run-inside g ls (l .k) (l .j) (c .before .before .loop-test .taken) (l .inv .1) (t .pre .1 .total))
 
 add-j : tie.Need-add-j Inv-loop μ-loop
@@ -61,7 +61,7 @@ add-j c =
     let l = c .before .before .before .before .before .before .loop in
     let g = t .args .depth in
     let ls = t .args .left .now in
-    let w = shifted (g - getD ls (l .k) 0) (omega arith) .0 in
+    let w = run-of (g - getD ls (l .k) 0) (omega arith) .is in
     let u : 2 ^ g ≤ 2 ^ 8 = pow-mono (t .pre .0) in
     omega (arith, run-inside g ls (l .k) (l .j) (c .before .before .before .before .before .loop-test .taken) (l .inv .1) (t .pre .1 .total))
 
@@ -76,7 +76,7 @@ loop-again c =
     let taken = c .before .before .before .before .before .loop-test .taken in
     let g = t .args .depth in
     let ls = t .args .left .now in
-    let w = shifted (g - getD ls (l .k) 0) (omega arith) .0 in (
+    let w = run-of (g - getD ls (l .k) 0) (omega arith) .is in (
       omega arith,
       rw w (start-more g ls (l .k) (l .j) taken (l .inv .1)),
       p .kept .0 ∙ l .inv .2,

@@ -1,6 +1,6 @@
 -- `left::records_at` meets its contract: a page's records count at its first entry alone.
 use mathlib.Core.Path.{refl}
-use Prim.Native.Nat.{_*_, _-_, _%_, _^_}
+use Prim.Native.Nat.{_-_}
 use native.Mathlib.Omega.{arith}
 use Rattle.tidy.proofs.Known.{shown-depth, run-fits, at-first, at-later}
 use Rattle.tidy.proofs.left.records_at.Statement.{statement}

@@ -14,7 +14,7 @@ use Rattle.laws.specs.Tidy.Entries.{startOf}
 use Rattle.laws.specs.Tidy.Starts.{start-zero}
 use Rattle.wire.specs.Over.{over}
 use Rattle.wire.specs.OverLaws.{length-over}
-use Rattle.tidy.proofs.Known.{shifted}
+use Rattle.tidy.proofs.Known.{run-of}
 use Rattle.tidy.proofs.Table.{run-inside, start-more, small, own-fills, sizes, page-here, part-size, part-back, pages-none, pages-next, pages-all}
 use Rattle.tidy.proofs.pages.put_pages.Statement.{statement}
 use Rattle.tidy.proofs.pages.put_pages.Tie as tie
@@ -129,7 +129,7 @@ add-j c =
     let taken = c .before .before .before .before .before .before .loop-test .taken in
     let g = t .args .h .depth in
     let deep = t .pre .0 .heads .limits .depth in
-    let w = shifted (g - getD ls (l .k) 0) (omega arith) .0 in
+    let w = run-of (g - getD ls (l .k) 0) (omega arith) .is in
     let u : 2 ^ g ≤ 2 ^ 8 = pow-mono deep in
     omega (arith, run-inside g ls (l .k) (l .j) taken (l .inv .1) (f .total))
 
@@ -150,7 +150,7 @@ loop-again c =
     let a = t .args in
     let g = a .h .depth in
     let p = c .before .before .before .put-page in
-    let w = shifted (g - getD ls (l .k) 0) (omega (arith, t .pre .0 .heads .limits .depth)) .0 in
+    let w = run-of (g - getD ls (l .k) 0) (omega (arith, t .pre .0 .heads .limits .depth)) .is in
     let here = page-here (t .pre .0) ls (t .pre .1) (l .k) (l .j) taken (l .inv .1) in
     let back =
     part-back (l .table) (p .last .1 .1 .1 .1 .0) (z .result * l .k) (z .result * l .k + z .result) (p .kept .1 .1 .1 .1 .0) (omega arith) (omega (arith, s .next taken))
