@@ -39,6 +39,12 @@ pub record Tidied (d : ℕ) (b : List ℕ) : Type 0 where
   pub joined : Joined (fileOf b)
   -- along the new directory the numbers do not fall
   pub entries : (i j : ℕ) → i ≤ j → j < 2 ^ d → entryAt (tidyFile d (fileOf b)) i ≤ entryAt (tidyFile d (fileOf b)) j
+  -- "P is kept"; c too; the depth is the wanted one, and no more pages are in use than before
+  pub keeps
+      : (tidyFile d (fileOf b) .g ≡ d)
+      × (tidyFile d (fileOf b) .c ≡ fileOf b .c)
+      × (tidyFile d (fileOf b) .limit ≡ fileOf b .limit)
+      × (tidyFile d (fileOf b) .used ≤ fileOf b .used)
   -- what is written is accepted as a job by itself, and as a job is the tidied file
   pub bytes : AreBytes (tidyBytes d b)
   pub accepted : IsFile (tidyBytes d b) (tidyFile d (fileOf b))

@@ -32,7 +32,7 @@ use Rattle.laws.specs.Codec.AsBytes.{written-bytes}
 use Rattle.laws.specs.Codec.Exact.{accepted-proper}
 use Rattle.laws.specs.Demand3.{demand3}
 use Rattle.laws.specs.Tidy.Kept.{left-right}
-use Rattle.laws.specs.Tidy.File.{holds-once, tidy-ok, tidy-numbered, tidy-fits, tidy-holds}
+use Rattle.laws.specs.Tidy.File.{holds-once, tidy-ok, tidy-numbered, tidy-keeps, tidy-fits, tidy-holds}
 use Rattle.laws.specs.Tidy.Ends.{none-left}
 use Rattle.laws.specs.Tidy.Again.{left-again, tidy-again}
 use Rattle.laws.specs.Tidy.Order.{any-order}
@@ -145,6 +145,7 @@ module _ (d : ℕ) (b : List ℕ) (bytes : AreBytes b) (accepted : jobFault b �
       record {
         joined = joined f (proper .0);
         entries = tidy-numbered f (proper .0) d w;
+        keeps = tidy-keeps f (proper .0) d w;
         bytes = written-bytes (fileJob (tidyFile d f)) (file-proper (tidyFile d f) ok fits);
         accepted = is-file;
         most = most;
