@@ -20,7 +20,7 @@ use Rattle.spec.specs.PlainList.{NoneTwice, Plain, plainStep, askLine, replay}
 use Rattle.spec.specs.Bytes.{AreBytes}
 use Rattle.spec.specs.Proper.{FileOk}
 use Rattle.spec.specs.Claims.{Accepted, answerAt}
-use Rattle.spec.specs.Months.{Taken, asItIs, tidied, Follows, Months, last, month, lastOf, answersIn, fedLog, feed, MonthsTogether}
+use Rattle.spec.specs.Months.{Taken, asItIs, tidied, Follows, Months, last, month, lastOf, repliesTold, fedLog, feed, MonthsTogether}
 use Rattle.laws.specs.Tools.{if-both}
 use Rattle.laws.specs.Codec.Accepted.{accepted-file}
 use Rattle.laws.specs.Turns.Records.{added-own, added-other, without-own, without-other, same-has}
@@ -91,8 +91,8 @@ module _ (a : List ℕ) (accepted : Accepted a) (l : List Rec) (h : Finds l (con
   unfolding fedLog jobOf
   same = replay-finds (j .ops) (result j .answers) (result j .log) l (contents (j .file)) h
 
-  month-answers : fedLog a l .replies ≡ answersIn a
-  unfolding answersIn answerAt
+  month-answers : fedLog a l .replies ≡ repliesTold a
+  unfolding repliesTold answerAt
   month-answers = same .0 ∙ replayed j ok .0
 
   month-finds : Finds (fedLog a l .list) (contents (run j .file))
@@ -117,7 +117,7 @@ next-finds a b bytes accepted w =
 
 -- all months
 record All (a : List ℕ) (bs : List (List ℕ)) (l : List Rec) : Type 0 where
-  answers : feed (a ∷ bs) l .replies ≡ map answersIn (a ∷ bs)
+  answers : feed (a ∷ bs) l .replies ≡ map repliesTold (a ∷ bs)
   finds : Finds (feed (a ∷ bs) l .list) (contents (run (jobOf (lastOf a bs)) .file))
   ok : FileOk (jobOf (lastOf a bs) .file)
 

@@ -39,8 +39,8 @@ lastOf a [] = a
 lastOf a (b ∷ bs) = lastOf b bs
 
 -- what a job's result answers, line for line of its log
-unfoldable pub answersIn : List ℕ → List Reply
-answersIn a =
+unfoldable pub repliesTold : List ℕ → List Reply
+repliesTold a =
     let r : Result = result (jobOf a) in
     map (λ h. replyOf (answerAt r (h .op))) (r .log)
 
@@ -63,7 +63,7 @@ feed (a ∷ more) l =
 
 -- The months of job a and the jobs behind it are explained by their logs, on one plain list that starts as what the first file held.
 pub record Together (a : List ℕ) (bs : List (List ℕ)) : Type 0 where
-  pub answers : feed (a ∷ bs) (contents (fileOf a)) .replies ≡ map answersIn (a ∷ bs)
+  pub answers : feed (a ∷ bs) (contents (fileOf a)) .replies ≡ map repliesTold (a ∷ bs)
   pub held : (r : Rec) → Has r (feed (a ∷ bs) (contents (fileOf a)) .list) ↔ Has r (contents (run (jobOf (lastOf a bs)) .file))
   pub once : NoneTwice (feed (a ∷ bs) (contents (fileOf a)) .list)
 

@@ -8,19 +8,19 @@ use lib.ListN.{length}
 use Rattle.spec.specs.declared.Rec.{Rec}
 use Rattle.spec.specs.Basics.{Has}
 use Rattle.spec.specs.Bytes.{AreBytes}
-use Rattle.spec.specs.File.{Page, File, entryAt, pagesInUse, contents}
+use Rattle.spec.specs.File.{Page, File, pageAt, entryAt, pagesInUse, contents}
 use Rattle.spec.specs.Decode.{fileOf, jobOf}
 use Rattle.spec.specs.Result.{readResult}
 use Rattle.spec.specs.Outcome.{resultBytes}
 use Rattle.spec.specs.PlainList.{NoneTwice}
-use Rattle.spec.specs.Tidy.{NoPair, Same, Joins, pagesLeft, ByFirstEntry, tidyFile, tidyBytes, tidyFault}
+use Rattle.spec.specs.Tidy.{NoPair, Same, Joins, pagesLeft, firstEntry, ByFirstEntry, tidyFile, tidyBytes, tidyFault}
 use Rattle.spec.specs.Job.{Job}
 use Rattle.spec.specs.Proper.{PageNo}
 use Rattle.spec.specs.Claims.{stateAt, Accepted, IsFile, Explained}
 
 -- the longest charge file: depth 8, capacity 8, 256 pages
-abbrev pub longest : ℕ
-longest = 17952
+abbrev pub longestFile : ℕ
+longestFile = 17952
 
 -- The pages that are left of a file, however they are joined, and their order.
 pub record Joined (f : File) : Type 0 where
@@ -37,8 +37,12 @@ pub record Joined (f : File) : Type 0 where
 -- The charge file b, tidied at depth d, where that is not refused.
 pub record Tidied (d : ℕ) (b : List ℕ) : Type 0 where
   pub joined : Joined (fileOf b)
-  -- along the new directory the numbers do not fall
-  pub entries : (i j : ℕ) → i ≤ j → j < 2 ^ d → entryAt (tidyFile d (fileOf b)) i ≤ entryAt (tidyFile d (fileOf b)) j
+  -- in the new directory each page's first entry names it, and every entry before names a page with a lower number
+  pub entries
+      : (x : ℕ)
+      → PageNo (tidyFile d (fileOf b)) x
+      → let first = firstEntry d (pageAt (tidyFile d (fileOf b)) x) in
+      (entryAt (tidyFile d (fileOf b)) first ≡ x) × ((j : ℕ) → j < first → entryAt (tidyFile d (fileOf b)) j < x)
   -- "P is kept"; c too; the depth is the wanted one, and no more pages are in use than before
   pub keeps
       : (tidyFile d (fileOf b) .g ≡ d)
@@ -48,7 +52,7 @@ pub record Tidied (d : ℕ) (b : List ℕ) : Type 0 where
   -- what is written is accepted as a job by itself, and as a job is the tidied file
   pub bytes : AreBytes (tidyBytes d b)
   pub accepted : IsFile (tidyBytes d b) (tidyFile d (fileOf b))
-  pub most : length (tidyBytes d b) ≤ longest
+  pub most : length (tidyBytes d b) ≤ longestFile
   -- "The file holds the same calls with the same charges", and no call twice
   pub holds : (r : Rec) → Has r (contents (fileOf (tidyBytes d b))) ↔ Has r (contents (fileOf b))
   pub once : NoneTwice (contents (fileOf (tidyBytes d b)))

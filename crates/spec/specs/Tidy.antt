@@ -56,11 +56,6 @@ pub data Joins (c : ℕ) : List Page → List Page → Type 0 where
   stay : {ps qs : List Page} → Same ps qs → Joins c ps qs
   then : {ps qs rs : List Page} → Join c ps qs → Joins c qs rs → Joins c ps rs
 
--- how many
-unfoldable pub howMany : {c : ℕ} {ps qs : List Page} → Joins c ps qs → ℕ
-howMany (stay e) = 0
-howMany (then j js) = suc (howMany js)
-
 -- the page that the first of pattern p's entries names; the pattern has l bits
 unfoldable pub pageUnder : File → ℕ → ℕ → Page
 pageUnder f l p = pageAt f (entryAt f (p * 2 ^ (f .g - l)))
@@ -85,11 +80,6 @@ leftUnder (suc n) f l p =
 -- "two pages .. are joined .., until no such pair is left"
 unfoldable pub pagesLeft : File → List Page
 pagesLeft f = leftUnder (f .g) f 0 0
-
--- a depth that may be wanted: at most 8, and no page left is deeper
-pub record Wanted (d : ℕ) (f : File) : Type 0 where
-  pub most : d ≤ maxDepth
-  pub least : Each (λ q. q .depth ≤ d) (pagesLeft f)
 
 -- the first entry that names a page, in a directory of depth d
 unfoldable pub firstEntry : ℕ → Page → ℕ

@@ -13,7 +13,7 @@ use Rattle.spec.specs.File.{File}
 use Rattle.spec.specs.Decode.{fileOf}
 use Rattle.laws.specs.Tidy.Entries.{recordsAt, recordsBefore, recordsUnder, depthFrom, depthOn, depthsLeft}
 use Rattle.laws.specs.Tidy.Spans.{before-zero, before-step, before-mono}
-use Rattle.laws.specs.Tidy.Ranges.{entries-in}
+use Rattle.laws.specs.Tidy.EntriesOf.{entries-in}
 use Rattle.laws.specs.Tidy.Depths.{depth-here, depth-next, depth-last, depths-end, depths-step}
 use Rattle.header.specs.declared.Header.{Header}
 use Rattle.tidy.specs.Given.{Given, Climbs, Counted}

@@ -10,12 +10,13 @@ use Rattle.spec.specs.declared.Outcome.{Outcome}
 use Rattle.spec.specs.declared.Outcome.the-variants.{Done, Refused}
 use Rattle.spec.specs.Basics.{when, orElse}
 use Rattle.spec.specs.Bytes.{AreBytes}
-use Rattle.spec.specs.Decode.{headerOf, jobOf}
+use Rattle.spec.specs.Decode.{headerOf, fileOf, jobOf}
 use Rattle.spec.specs.Check.{Fault, numbered, jobFault}
+use Rattle.spec.specs.Proper.{FileOk}
 use Rattle.spec.specs.Outcome.{outcomeBy, afterCall, bufferBy}
 use Rattle.spec.specs.Tidy.{tidyBytes, opsPresent, tidyFault, tidyOutcome, tidyBuffer}
 use Rattle.laws.specs.Codec.Accepted.{accepted-file}
-use Rattle.laws.specs.Tidy.Bytes.{tidied}
+use Rattle.laws.specs.Tidy.Bytes.{joined, tidied}
 use Rattle.header.specs.declared.Header.{Header}
 use Rattle.header.specs.Counts.{countsOf}
 use Rattle.header.specs.Accepted.{accepted-heads}
@@ -71,10 +72,13 @@ pub by-job : (room d : ℕ) (b : List ℕ) (f : Fault) → jobFault b ≡ some f
 unfolding tidyFault orElse
 by-job room d b f e = rw e
 
--- an accepted file, with its header
-pub given : (h : Header) (b : List ℕ) → AreBytes b → jobFault b ≡ none → countsOf h ≡ headerOf b → Given h b
+-- an accepted file, and its header
+proper : (b : List ℕ) → jobFault b ≡ none → FileOk (fileOf b)
 unfolding jobOf
-given h b bytes e c = record { bytes = bytes; accepted = e; heads = accepted-heads h b e c; ok = accepted-file b e }
+proper b e = accepted-file b e
+
+pub given : (h : Header) (b : List ℕ) → AreBytes b → jobFault b ≡ none → countsOf h ≡ headerOf b → Given h b
+given h b bytes e c = record { bytes = bytes; accepted = e; heads = accepted-heads h b e c; ok = proper b e }
 
 -- THE CALL
 pub settled
@@ -85,4 +89,4 @@ pub settled
     → Settled b d s t r
 unfolding tidyOutcome tidyBuffer
 settled {d = d} {b = b} {s = s} bytes e c =
-    record { answer = rw e (c .answer); output = rw e (c .output); tidied = tidied (length s) d b bytes }
+    record { answer = rw e (c .answer); output = rw e (c .output); joined = λ n. joined (fileOf b) (proper b n); tidied = tidied (length s) d b bytes }

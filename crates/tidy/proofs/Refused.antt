@@ -15,7 +15,8 @@ use Rattle.spec.specs.Encode.{headerFor}
 use Rattle.spec.specs.Decode.{fileOf}
 use Rattle.spec.specs.Check.{numbered}
 use Rattle.spec.specs.Cases.{checkedOf}
-use Rattle.spec.specs.Tidy.{Wanted, pagesLeft, fileWith, tidyFile, tidyBytes, isDeeper, wrongDepth, smallOut}
+use Rattle.spec.specs.Tidy.{pagesLeft, fileWith, tidyFile, tidyBytes, isDeeper, wrongDepth, smallOut}
+use Rattle.laws.specs.Tidy.Wanted.{Wanted}
 use Rattle.laws.specs.Codec.Tools.{failed, orElse-none, numbered-none}
 use Rattle.laws.specs.Codec.Sizes.{length-file}
 use Rattle.laws.specs.Tidy.File.{tidy-ok}

@@ -11,7 +11,8 @@ use Rattle.spec.specs.File.{Page, File, zeroPage}
 use Rattle.spec.specs.Job.{pageSize}
 use Rattle.spec.specs.Encode.{headerBytes, headerFor, pageBytes, encodeJob, encodeFile}
 use Rattle.spec.specs.Decode.{fileOf}
-use Rattle.spec.specs.Tidy.{Wanted, pagesLeft, ownersFrom, fileWith, tidyFile, tidyBytes}
+use Rattle.spec.specs.Tidy.{pagesLeft, ownersFrom, fileWith, tidyFile, tidyBytes}
+use Rattle.laws.specs.Tidy.Wanted.{Wanted}
 use Rattle.laws.specs.Codec.Parts.{each-join}
 use Rattle.laws.specs.Codec.Sections.{length-header}
 use Rattle.laws.specs.Tidy.Entries.{depthsLeft, spread}

@@ -18,14 +18,12 @@ use Rattle.spec.specs.Job.{Header, versionAt, gAt, cAt, limitAt, usedAt, opCoun
 use Rattle.spec.specs.Decode.{headerOf}
 use Rattle.spec.specs.Check.{Fault, short, wrongVersion, overLimit, wrongOffset, numbered, firstRow, jobFault}
 use Rattle.spec.specs.Report.{printedBy, printed}
+use Rattle.spec.specs.Tidied.{longestFile}
 use Rattle.laws.specs.Codec.Tools.{failed, among-none, among-end}
 use Rattle.laws.specs.Codec.Parts.{byte-in, word-in, long-in}
 use Rattle.laws.specs.Codec.Rows.{Limits, limits-said, accepted-header}
 
--- the lengths of the longest charge file and of the longest job: the deepest directory, the most and largest pages; the most operations and turns
-abbrev pub longestFile : ℕ
-longestFile = 17952
-
+-- the length of the longest job: the deepest directory, the most and largest pages; the most operations and turns
 abbrev pub longest : ℕ
 longest = 53280
 

@@ -16,8 +16,9 @@ use Rattle.spec.specs.Decode.{headerOf, fileOf, jobOf}
 use Rattle.spec.specs.Check.{jobFault}
 use Rattle.spec.specs.Proper.{FileOk}
 use Rattle.spec.specs.Claims.{IsFile}
-use Rattle.spec.specs.Tidy.{Wanted, pagesLeft, tidyFile, tidyBytes, opsPresent, isDeeper, wrongDepth, smallOut, tidyFault}
-use Rattle.spec.specs.Tidied.{Joined, Tidied, Tidies, longest}
+use Rattle.spec.specs.Tidy.{pagesLeft, tidyFile, tidyBytes, opsPresent, isDeeper, wrongDepth, smallOut, tidyFault}
+use Rattle.laws.specs.Tidy.Wanted.{Wanted}
+use Rattle.spec.specs.Tidied.{Joined, Tidied, Tidies, longestFile}
 use Rattle.laws.specs.Tools.{each-imp}
 use Rattle.laws.specs.Codec.Tools.{failed, orElse-none, numbered-none, each-places}
 use Rattle.laws.specs.Codec.Told.{tells-either}
@@ -32,12 +33,12 @@ use Rattle.laws.specs.Codec.AsBytes.{written-bytes}
 use Rattle.laws.specs.Codec.Exact.{accepted-proper}
 use Rattle.laws.specs.Demand3.{demand3}
 use Rattle.laws.specs.Tidy.Kept.{left-right}
-use Rattle.laws.specs.Tidy.File.{holds-once, tidy-ok, tidy-numbered, tidy-keeps, tidy-fits, tidy-holds}
+use Rattle.laws.specs.Tidy.File.{holds-once, tidy-ok, tidy-keeps, tidy-fits, tidy-holds}
 use Rattle.laws.specs.Tidy.Ends.{none-left}
 use Rattle.laws.specs.Tidy.Again.{left-again, tidy-again}
 use Rattle.laws.specs.Tidy.Order.{any-order}
 use Rattle.laws.specs.Tidy.Reached.{left-reached}
-use Rattle.laws.specs.Tidy.Numbered.{left-order, only-left}
+use Rattle.laws.specs.Tidy.Numbered.{left-order, only-left, tidy-entries}
 
 -- the file's own depth and every greater one may be wanted
 pub own-depth : (f : File) → FileOk f → (d : ℕ) → f .g ≤ d → d ≤ maxDepth → Wanted d f
@@ -55,13 +56,13 @@ unfolding wrongDepth
 wanted-said d b = simp (failed, no-deeper) (λ h. record { most = h .0; least = h .1 }, λ w. (w .most, w .least))
 
 -- A CALL IS NOT REFUSED exactly if the file is accepted, has no operations, may have the wanted depth, and the output has room
-pub record Done (room d : ℕ) (b : List ℕ) : Type 0 where
+pub record NotRefused (room d : ℕ) (b : List ℕ) : Type 0 where
   pub accepted : jobFault b ≡ none
   pub noOps : headerOf b .ops ≡ 0
   pub wanted : Wanted d (fileOf b)
   pub enough : length (tidyBytes d b) ≤ room
 
-pub done-said : (room d : ℕ) (b : List ℕ) → tidyFault room d b ≡ none ↔ Done room d b
+pub done-said : (room d : ℕ) (b : List ℕ) → tidyFault room d b ≡ none ↔ NotRefused room d b
 unfolding tidyFault opsPresent smallOut
 done-said room d b =
     simp (orElse-none, numbered-none, wanted-said, failed) (
@@ -109,7 +110,7 @@ module _ (d : ℕ) (b : List ℕ) (bytes : AreBytes b) (accepted : jobFault b �
   unfolding jobOf
   file-says = ap (λ (j : Job). j .file) (is-file .1)
 
-  most : length (tidyBytes d b) ≤ longest
+  most : length (tidyBytes d b) ≤ longestFile
   unfolding tidyBytes headerFor
   most =
       rw (length-file (tidyFile d f) ok)
@@ -144,7 +145,7 @@ module _ (d : ℕ) (b : List ℕ) (bytes : AreBytes b) (accepted : jobFault b �
   tidied-of =
       record {
         joined = joined f (proper .0);
-        entries = tidy-numbered f (proper .0) d w;
+        entries = tidy-entries f (proper .0) d w;
         keeps = tidy-keeps f (proper .0) d w;
         bytes = written-bytes (fileJob (tidyFile d f)) (file-proper (tidyFile d f) ok fits);
         accepted = is-file;

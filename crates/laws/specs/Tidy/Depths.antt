@@ -17,7 +17,7 @@ use Rattle.laws.specs.Tidy.Tiles.{tiles-some}
 use Rattle.laws.specs.Tidy.Twins.{joined-depth, joined-length}
 use Rattle.laws.specs.Tidy.Left.{is-pair, Left, own, pair, apart, pages-left}
 use Rattle.laws.specs.Tidy.Kept.{twins, left-tiles}
-use Rattle.laws.specs.Tidy.Ranges.{low-entries, high-entries, entries-in, left-deep, left-small}
+use Rattle.laws.specs.Tidy.EntriesOf.{low-entries, high-entries, entries-in, left-deep, left-small}
 use Rattle.laws.specs.Tidy.Spans.{held, held-one, few-one, under}
 
 module _ (f : File) where

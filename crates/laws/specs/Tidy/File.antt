@@ -9,7 +9,8 @@ use Rattle.spec.specs.Basics.{Each, Has}
 use Rattle.spec.specs.File.{File, pageAt, entryAt, findIn, contents}
 use Rattle.spec.specs.PlainList.{NoneTwice}
 use Rattle.spec.specs.Proper.{PageOk, FileOk}
-use Rattle.spec.specs.Tidy.{Wanted, fileWith, tidyFile, pagesLeft}
+use Rattle.spec.specs.Tidy.{fileWith, tidyFile, pagesLeft}
+use Rattle.laws.specs.Tidy.Wanted.{Wanted}
 use Rattle.laws.specs.Tools.{each-imp}
 use Rattle.laws.specs.Codec.Tools.{each-imp₂}
 use Rattle.laws.specs.Codec.InUse.{any-page}

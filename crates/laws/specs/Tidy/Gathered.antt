@@ -23,7 +23,7 @@ use Rattle.laws.specs.Tidy.Twins.{Twins, apart as twins-apart}
 use Rattle.laws.specs.Tidy.Left.{is-pair, Left, own, pair, apart, pages-left}
 use Rattle.laws.specs.Tidy.Kept.{twins, left-tiles, left-each, Right, page-right, joined-right}
 use Rattle.laws.specs.Tidy.Entries.{pageOn, recordsFrom, gathered, pageFrom}
-use Rattle.laws.specs.Tidy.Ranges.{twice, left-deep, entryFrom, own-page}
+use Rattle.laws.specs.Tidy.EntriesOf.{twice, left-deep, entryFrom, own-page}
 
 -- ---- the steps of the walk
 

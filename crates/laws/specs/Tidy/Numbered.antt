@@ -1,19 +1,21 @@
 -- NUMBERED BY THEIR FIRST ENTRY: the pages left stand so, and there is one way to stand so. So what is written hangs on the joins alone.
 use Prim.Native.Nat.{ℕ, suc, _+_, _-_, _*_, _^_, _<_, _≤_}
-use mathlib.Core.Path.{_≡_, refl}
+use mathlib.Core.Path.{_≡_, refl, ap, subst}
 use mathlib.Core.List.{List, [], _∷_, _++_}
 use native.Mathlib.Omega.{arith}
 use lib.Pow.{pow-pos}
 use Rattle.spec.specs.Basics.{Each, end, next, Has, here, there}
-use Rattle.spec.specs.File.{Page, File, pagesInUse}
-use Rattle.spec.specs.Proper.{FileOk}
-use Rattle.spec.specs.Tidy.{NoPair, Same, Joins, pagesLeft, firstEntry, ByFirstEntry, nobody, before}
+use Rattle.spec.specs.File.{Page, File, pageAt, entryAt, pagesInUse}
+use Rattle.spec.specs.Proper.{PageNo, FileOk}
+use Rattle.spec.specs.Tidy.{NoPair, Same, Joins, pagesLeft, firstEntry, ByFirstEntry, nobody, before, tidyFile}
 use Rattle.laws.specs.Tools.{first, rest, each-append, each-imp}
 use Rattle.laws.specs.Tidy.Tiles.{each-left, each-right, each-has, Tiles, whole, halves}
+use Rattle.laws.specs.Tidy.Wanted.{Wanted}
 use Rattle.laws.specs.Tidy.Left.{pages-left}
+use Rattle.laws.specs.Tidy.File.{tidy-ok, tidy-numbered, tidy-keeps}
 use Rattle.laws.specs.Tidy.Kept.{left-tiles, left-right}
 use Rattle.laws.specs.Tidy.Order.{any-order}
-use Rattle.laws.specs.Tidy.Ranges.{low-entries, high-entries, tiles-under}
+use Rattle.laws.specs.Tidy.EntriesOf.{low-entries, high-entries, tiles-under, entryFrom, first-within, first-names, not-before}
 
 -- ---- pages that part a pattern stand so
 
@@ -93,3 +95,29 @@ module _ (f : File) (ok : FileOk f) where
 
   pub only-left : (ps : List Page) → Joins (f .c) (pagesInUse f) ps → NoPair (f .c) ps → ByFirstEntry (f .g) ps → ps ≡ pagesLeft f
   only-left ps js n h = one-order (f .g) ps (pagesLeft f) h left-order (any-order f ok ps js n)
+
+-- in the tidied file each page's first entry names it, and the entries before name pages with lower numbers
+module _ (f : File) (ok : FileOk f) (d : ℕ) (w : Wanted d f) where
+  abbrev t : File
+  t = tidyFile d f
+
+  firsts : (x : ℕ) → PageNo t x → (entryAt t (entryFrom t x) ≡ x) × ((j : ℕ) → j < entryFrom t x → entryAt t j < x)
+  firsts x n =
+      let fine = tidy-ok f ok d w in
+      let named = first-names t fine x n in
+      let g : t .g ≡ d = tidy-keeps f ok d w .0 in
+      let within = first-within t fine x n in (
+        named,
+        λ j l.
+            let low = tidy-numbered f ok d w j (entryFrom t x) (omega arith) (omega (arith, within, ap (λ n. 2 ^ n) g)) in
+            let not : entryAt t j ≡ x → ⊥ = λ e. let z = not-before t fine x j (omega arith) e in omega arith in
+            omega arith,
+      )
+
+  pub tidy-entries
+      : (x : ℕ)
+      → PageNo t x
+      → (entryAt t (firstEntry d (pageAt t x)) ≡ x) × ((j : ℕ) → j < firstEntry d (pageAt t x) → entryAt t j < x)
+  tidy-entries x n =
+      subst (λ (g : ℕ). (entryAt t (firstEntry g (pageAt t x)) ≡ x) × ((j : ℕ) → j < firstEntry g (pageAt t x) → entryAt t j < x)) (tidy-keeps f ok d w .0)
+      (firsts x n)

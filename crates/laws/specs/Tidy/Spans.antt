@@ -14,7 +14,7 @@ use Rattle.spec.specs.Proper.{PageNo, FileOk}
 use Rattle.spec.specs.Tidy.{firstEntry, joinPages}
 use Rattle.laws.specs.Tools.{if-case, if-true, if-false}
 use Rattle.laws.specs.Tidy.Entries.{pageOn, recordsAt, recordsBefore, recordsUnder}
-use Rattle.laws.specs.Tidy.Ranges.{low-entries, high-entries, front, left-deep, range-page}
+use Rattle.laws.specs.Tidy.EntriesOf.{low-entries, high-entries, front, left-deep, range-page}
 use Rattle.laws.specs.Tidy.Twins.{joined-length}
 use Rattle.laws.specs.Tidy.Left.{is-pair, pair-is, Left, own, pair, apart}
 use Rattle.laws.specs.Tidy.Kept.{twins, left-tiles}

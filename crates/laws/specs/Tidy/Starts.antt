@@ -22,7 +22,7 @@ use Rattle.laws.specs.Turns.Owners.{newOwner-is}
 use Rattle.laws.specs.Tidy.Tiles.{each-left, each-right, Tiles, whole, halves, tiles-lone, Covered, tiles-cover}
 use Rattle.laws.specs.Tidy.Laid.{length-owners, owners-at}
 use Rattle.laws.specs.Tidy.Entries.{startOf, spread}
-use Rattle.laws.specs.Tidy.Ranges.{twice, tiles-under}
+use Rattle.laws.specs.Tidy.EntriesOf.{twice, tiles-under}
 
 -- ---- where a page begins: the steps
 

@@ -4,8 +4,8 @@ use mathlib.Core.Path.{_≡_, ap, _∙_}
 use mathlib.Core.List.{List}
 use native.Mathlib.Omega.{arith}
 use native.Mathlib.Nat.{pow-suc, mul-le-mul-right}
-use lib.Pow.{pow-pos, pow-add, high}
-use borrow.Author.Tests.{eq-eqb}
+use lib.Pow.{pow-pos, pow-add, high, split}
+use borrow.Author.Tests.{eq-eqb, eqb-true}
 use Rattle.spec.specs.Basics.{Each}
 use Rattle.spec.specs.Key.{begins}
 use Rattle.spec.specs.File.{Page, File, zeroPage, pageAt, entryAt}
@@ -92,3 +92,17 @@ range-page f ok x j n a b = ap (pageAt f) (range-entry f ok x j n a b)
 
 pub own-page : (f : File) → FileOk f → (x : ℕ) → PageNo f x → pageOn f (entryFrom f x) ≡ pageAt f x
 own-page f ok x n = let pos = pow-pos (f .g - pageAt f x .depth) in range-page f ok x _ n (omega arith) (omega arith)
+
+-- a page's first entry is an entry, and names it; and no entry before it does
+pub first-within : (f : File) → FileOk f → (x : ℕ) → PageNo f x → entryFrom f x < 2 ^ f .g
+first-within f ok x n = let r = page-range (f .g) (f .c) (pageAt f x) (ok .pages x n) in omega (arith, pow-pos (f .g - pageAt f x .depth))
+
+pub first-names : (f : File) → FileOk f → (x : ℕ) → PageNo f x → entryAt f (entryFrom f x) ≡ x
+first-names f ok x n = range-entry f ok x (entryFrom f x) n (omega arith) (omega (arith, pow-pos (f .g - pageAt f x .depth)))
+
+pub not-before : (f : File) → FileOk f → (x j : ℕ) → j < 2 ^ f .g → entryAt f j ≡ x → entryFrom f x ≤ j
+unfolding firstEntry begins
+not-before f ok x j l e =
+    let q = pageAt f x in
+    let at : j / 2 ^ (f .g - q .depth) ≡ q .pattern = eqb-true _ _ (rw e at (ok .names j l)) in
+    rw (← at) (omega (arith, split j (f .g - q .depth)))
