@@ -17,11 +17,11 @@
  *     was. (Number and place of the refusal are returned by value.)
  *   - The bytes of the job or of the charge file are never written.
  *   - Refusal 0 is told exactly when no row of the refusal table that belongs to the call holds.
- *   - A job that meets no row of the refusal table is run. What then stands in the result buffer is
+ *   - A job that meets no row that belongs to chargefile_run is run. What then stands in the result buffer is
  *     explained by its own log: the answered operations done one at a time in the log's order, on a
  *     plain list of calls, get the same answers and leave the calls that the file then holds. Its
  *     charge file, where there is one, is that file, and is accepted as a job by itself.
- *   - A charge file that meets no row is tidied. What is then written is accepted as a job by
+ *   - A charge file that meets no row that belongs to chargefile_tidy is tidied. What is then written is accepted as a job by
  *     itself, so that it can be run like any other. It holds the same calls with the same charges,
  *     no two of its pages can be joined, and tidied again at the same depth it comes out the same.
  *
@@ -69,7 +69,7 @@ extern "C" {
 #define CHARGEFILE_TURNS_MAX 16384u    /* turns of a job, from 0 */
 
 /* ---- Where the fields of a job's header stand, counted in bytes from its start. All numbers of a
- * job and of a result are little-endian. These are also the places of refusals 2, 3 and 4. */
+ * job and of a result are little-endian. These are also the places of refusals 2, 3, 4 and 18. */
 
 #define CHARGEFILE_AT_VERSION 0u           /* 2 bytes */
 #define CHARGEFILE_AT_DEPTH 2u             /* 1 byte: g */
@@ -288,7 +288,7 @@ typedef char chargefile_outcome_has_24_bytes[sizeof(chargefile_outcome) == 24 ? 
 typedef char chargefile_size_has_8_bytes[sizeof(size_t) == 8 ? 1 : -1];
 
 /*
- * Checks the job_length bytes at `job`, for every refusal but 11. Nothing is written; a check has
+ * Checks the job_length bytes at `job`, for every refusal but 18, 19 and 11. Nothing is written; a check has
  * no output, so the length is 0.
  */
 chargefile_outcome chargefile_check(const uint8_t *job, size_t job_length);

@@ -38,10 +38,10 @@ int nothing_written(void);
  * all lent rows and all lent memory are zero; and where nothing past what was lent is written. */
 int left_as_after_a_run(size_t total);
 
-/* Expects the refusal of a job from both calls, with `number` and `place`, and nothing written. */
+/* Expects the refusal of a job from check and run, with `number` and `place`, and nothing written. */
 void expect_refused(const job *j, uint64_t number, uint64_t place);
 
-/* Expects that both calls accept the job, lent the least; `total` bytes of result, if not 0. */
+/* Expects that check and run accept the job, lent the least; `total` bytes of result, if not 0. */
 void expect_run(const job *j, size_t total);
 
 /* Expects that a run of the job with what is lent now is refused 11 with this place. */

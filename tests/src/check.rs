@@ -88,7 +88,7 @@ fn met_in_page(
     rows.iter().find_map(met)
 }
 
-/// The refusal of a job by its bytes, that is by every row but 11: its number
+/// The refusal of a job by its bytes, that is by every row about them alone: its number
 /// and place.
 pub fn check(job: &[u8]) -> Option<(u32, u32)> {
     let met = ORDER.iter().find_map(|step| step.met(job));

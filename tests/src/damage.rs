@@ -1,4 +1,5 @@
-//! Damaged jobs, for every row of the refusal table but 11.
+//! Damaged jobs, for every row of the refusal table that is about a job's
+//! bytes alone.
 //!
 //! A [`Fault`] is made in a sound job at a place that is known beforehand, so
 //! a test can ask for exactly that number and place; those of a page are in

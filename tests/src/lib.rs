@@ -8,7 +8,7 @@
 //!
 //! The calls a test needs:
 //!
-//! - [`check`]: the refusal of a job by its bytes, every row but 11, or `None`;
+//! - [`check`]: the refusal of a job by its bytes, every row that is about them alone, or `None`;
 //! - [`run`]: the result bytes, or the refusal, by every row;
 //! - [`report`]: what `chargelog` prints;
 //! - [`tidy`]: the bytes of a tidied charge file, or the refusal;

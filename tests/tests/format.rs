@@ -123,7 +123,7 @@ fn the_worked_refusals() {
     let all = NUMBERS.map(|number| number.to_string());
     assert_eq!(
         numbers, all,
-        "each row of the refusal table but 11, in the order of the checks"
+        "each row about a job's bytes alone, in the order of the checks"
     );
 }
 

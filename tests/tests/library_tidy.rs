@@ -248,10 +248,9 @@ fn one_month(list: PlainList, job: &Job) -> (PlainList, Vec<u8>) {
     let told = linked::run(&bytes, &mut Lent::new(room, rows, memory));
     let contents = result::from_bytes(&told.expect("a sound job is run")).unwrap();
     let list = explain_from(list, job, &contents).unwrap();
-    (
-        list,
-        contents.charge_file.expect("every operation finishes"),
-    )
+    let left = contents.charge_file.expect("every operation finishes");
+    assert!(Job::from_bytes(&left).file.in_use >= job.file.in_use);
+    (list, left)
 }
 
 /// The file tidied by the library at one of the depths that it takes, any of them.

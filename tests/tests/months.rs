@@ -30,8 +30,8 @@ fn tidied(random: &mut Random, file: &ChargeFile) -> ChargeFile {
     taken.expect("no page is deeper than 8, so 8 is taken")
 }
 
-/// Deals a job its turns, and asks after each that "no page number comes back into use during a run": U does not fall, and a page that is newly named is
-/// one that was not in use when the run began.
+/// Deals a job its turns, and asks after each that "no page number comes back into use during a run": U does not fall, and a page that some entry
+/// names stays named.
 fn dealt(job: &Job) -> Run {
     assert_eq!(check(&job.to_bytes()), None);
     let mut run = Run::new(job);
@@ -45,9 +45,11 @@ fn dealt(job: &Job) -> Run {
         let file = &run.shared.file;
         assert!(file.in_use >= before, "U falls");
         for &number in &file.directory {
-            assert!(named[number] || number > job.file.in_use);
+            assert!(number <= file.in_use);
             named[number] = true;
         }
+        let stays = |number| !named[number] || file.directory.contains(&number);
+        assert!((0..named.len()).all(stays), "a page is given back");
     }
     run
 }

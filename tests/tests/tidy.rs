@@ -82,7 +82,8 @@ fn a_tidied_file_is_a_file_with_the_same_calls() {
             assert_eq!(counts.pages, case.file.pages.len());
             assert_eq!((counts.operations, counts.turns), (0, 0));
             assert_eq!(PlainList::of(&file_of(bytes).holds()), list);
-            assert!(bytes.len() <= LONGEST);
+            let page = 4 + 8 * counts.capacity;
+            assert_eq!(bytes.len(), 32 + (2 << depth) + counts.pages * page);
         }
         for (_, outcome) in &case.outcomes {
             met.add(&case.file, outcome);
@@ -93,7 +94,7 @@ fn a_tidied_file_is_a_file_with_the_same_calls() {
     }
 }
 
-/// "A wanted depth below g is taken if no page left is deeper": each depth from that of the deepest page left to 8 is, and no other.
+/// 19 is for a wanted depth "above 8 or below the depth of a page left after joining": each depth from that of the deepest page left to 8 is taken, and no other.
 #[test]
 fn the_depths_that_are_taken() {
     each_case("tidy depths", |_, case| {

@@ -50,7 +50,7 @@ fn refused(number: u32, place: u32) -> Outcome {
     Outcome::Refused { number, place }
 }
 
-/// Byte for byte: g 1, c 2, P 2; page 1 has calls 2 and 4, page 2 is empty. It is the file that job E leaves.
+/// Byte for byte: g 1, c 2, P 2; page 1 has calls 2 and 4, page 2 is empty. It is the file that job E leaves, but for the charges.
 #[test]
 fn the_bytes_of_a_tidied_file() {
     let came_in = file((1, 2, 2), &[page(1, 0, &[2, 4]), page(1, 1, &[])]);

@@ -43,7 +43,7 @@ fn outcome_of(c: Checked) -> Outcome
     }
 }
 
-// The check of a job's bytes: all rows of the refusal table but 11.
+// The check of a job's bytes: all rows of the refusal table that are about them alone.
 #[no_mangle]
 pub extern "C" fn chargefile_check(job: &[u8]) -> CallOutcome
     ensures { λ r. ⌜ CheckCalled (now (job .entry)) r ⌝ }

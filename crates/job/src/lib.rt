@@ -1,4 +1,4 @@
-// The check of a job's bytes: all rows of the refusal table but 11.
+// The check of a job's bytes: all rows of the refusal table that are about them alone.
 mod head;
 mod owner;
 mod records;

@@ -5,6 +5,8 @@ use mathlib.Core.List.{List, [], _∷_, _++_, map}
 use lib.ListN.{set, take, drop, replicate}
 use Rattle.spec.specs.declared.Outcome.{Outcome}
 use Rattle.spec.specs.declared.Outcome.the-variants.{Done, Refused}
+use Rattle.spec.specs.Basics.{each}
+use Rattle.spec.specs.Bytes.{two}
 use Rattle.spec.specs.Tidy.{tidyOutcome, tidyBuffer}
 use Rattle.spec.specs.Worked.{jobC, resultC}
 use Rattle.spec.specs.Opened.{opened}
@@ -38,6 +40,27 @@ fileC3 =
 abbrev turned : List ℕ
 turned = set (set (take 60 fileC) 36 3) 38 2 ++ drop 80 fileC ++ take 20 (drop 60 fileC)
 
+-- the deepest directory there is, for the one page
+abbrev thin8 : List ℕ
+thin8 =
+    (1 ∷ 0 ∷ 8 ∷ 2 ∷ 3 ∷ 0 ∷ 1 ∷ 0 ∷ 0 ∷ 0 ∷ 0 ∷ 0 ∷ [])  -- version, g, c, P, U, m, turns
+    ++ (32 ∷ 0 ∷ 0 ∷ 0 ∷ 32 ∷ 2 ∷ 0 ∷ 0 ∷ 92 ∷ 2 ∷ 0 ∷ 0 ∷ 92 ∷ 2 ∷ 0 ∷ 0 ∷ 92 ∷ 2 ∷ 0 ∷ 0 ∷ [])  -- offsets of directory, page table, operations and turns; total
+    ++ each two (replicate 256 1)  -- directory
+    ++ drop 34 thin0  -- pages
+
+-- pages 2 and 3 hold two records together, but their patterns, 01 and 10, differ in both bits: they are no pair
+abbrev neighbours : List ℕ
+neighbours =
+    (1 ∷ 0 ∷ 2 ∷ 2 ∷ 4 ∷ 0 ∷ 4 ∷ 0 ∷ 0 ∷ 0 ∷ 0 ∷ 0 ∷ [])  -- version, g, c, P, U, m, turns
+    ++ (32 ∷ 0 ∷ 0 ∷ 0 ∷ 40 ∷ 0 ∷ 0 ∷ 0 ∷ 120 ∷ 0 ∷ 0 ∷ 0 ∷ 120 ∷ 0 ∷ 0 ∷ 0 ∷ 120 ∷ 0 ∷ 0 ∷ 0 ∷ [])  -- offsets of directory, page table, operations and turns; total
+    ++ (1 ∷ 0 ∷ 2 ∷ 0 ∷ 3 ∷ 0 ∷ 4 ∷ 0 ∷ [])  -- directory
+    ++ (2 ∷ 2 ∷ 0 ∷ 0 ∷ 4 ∷ 0 ∷ 0 ∷ 0 ∷ 10 ∷ 0 ∷ 0 ∷ 0 ∷ 8 ∷ 0 ∷ 0 ∷ 0 ∷ 20 ∷ 0 ∷ 0 ∷ 0 ∷ [])  -- page 1
+    ++ (2 ∷ 1 ∷ 1 ∷ 0 ∷ 2 ∷ 0 ∷ 0 ∷ 0 ∷ 30 ∷ 0 ∷ 0 ∷ 0 ∷ [])  -- page 2
+    ++ replicate 8 0
+    ++ (2 ∷ 1 ∷ 2 ∷ 0 ∷ 1 ∷ 0 ∷ 0 ∷ 0 ∷ 40 ∷ 0 ∷ 0 ∷ 0 ∷ [])  -- page 3
+    ++ replicate 8 0
+    ++ (2 ∷ 2 ∷ 3 ∷ 0 ∷ 3 ∷ 0 ∷ 0 ∷ 0 ∷ 50 ∷ 0 ∷ 0 ∷ 0 ∷ 7 ∷ 0 ∷ 0 ∷ 0 ∷ 60 ∷ 0 ∷ 0 ∷ 0 ∷ [])  -- page 4
+
 -- What is asked, with an output buffer of this many bytes that are all 7; and what comes of it.
 record Row : Type 0 where
   room : ℕ
@@ -61,6 +84,8 @@ abbrev items : List Item
 items =
     row 100 0 thin (Done 94) (thin0 ++ replicate 6 7)
     ∷ row 94 0 thin0 (Done 94) thin0
+    ∷ row 604 8 thin0 (Done 604) thin8
+    ∷ row 120 2 neighbours (Done 120) neighbours
     ∷ row 100 2 fileC (Done 100) fileC
     ∷ row 100 2 turned (Done 100) fileC
     ∷ row 108 3 fileC (Done 108) fileC3
@@ -68,6 +93,7 @@ items =
     ∷ row 10 1 fileC (Refused 19 0) (replicate 10 7)
     ∷ row 10 9 thin (Refused 19 0) (replicate 10 7)
     ∷ row 10 9 jobC (Refused 18 8) (replicate 10 7)
+    ∷ row 10 9 (set jobC 110 1) (Refused 10 110) (replicate 10 7)
     ∷ row 10 9 (set jobC 0 2) (Refused 2 0) (replicate 10 7)
     ∷ []
 

@@ -77,7 +77,7 @@ fn depth_on(h: Header, before: &[u16], j: usize) -> usize
     g
 }
 
-// The depths of the pages left, by their first entries, and how many pages these are.
+// The same, from the numbers of records before each entry.
 fn depths(h: Header, before: &[u16], left: &mut [u8]) -> usize
     requires { ⌜ Limits (countsOf h) × Climbs (2 ^ h .depth) (now before) × (256 ≤ length (now left)) ⌝ }
     ensures { λ r. ⌜ ((b : List ℕ) → Given h b → Counted (fileOf b) (now (before .entry)) → take r (now (left .exit)) ≡ depthsLeft (fileOf b) 0) × (r ≤ 256) ⌝ }
@@ -94,6 +94,7 @@ fn depths(h: Header, before: &[u16], left: &mut [u8]) -> usize
     k
 }
 
+// The depths of the pages left of an accepted file, by their first entries, and how many pages these are.
 pub fn find(file: &[u8], h: Header, left: &mut [u8]) -> usize
     requires { ⌜ Given h (now file) × (256 ≤ length (now left)) ⌝ }
     ensures { λ r. ⌜ (take r (now (left .exit)) ≡ depthsLeft (fileOf (now (file .entry))) 0) × (r ≤ 256) ⌝ }

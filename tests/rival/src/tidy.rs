@@ -1,5 +1,5 @@
 //! Tidying: pages that can be joined are joined, and the charge file is written anew. One pass over the pages counts the records under every pattern,
-//! which settles the pages left: the shortest patterns under which a page's worth of records lies. Each is then written straight to its place, in the
+//! which settles the pages left: the highest patterns under which a page's worth of records lies. Each is then written straight to its place, in the
 //! order of entries.
 
 use crate::bytes::two_at;
