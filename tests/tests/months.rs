@@ -48,7 +48,7 @@ fn dealt(job: &Job) -> Run {
             assert!(number <= file.in_use);
             named[number] = true;
         }
-        let stays = |number| !named[number] || file.directory.contains(&number);
+        let stays = |number: usize| !named[number] || file.directory.contains(&number);
         assert!((0..named.len()).all(stays), "a page is given back");
     }
     run
