@@ -17,13 +17,14 @@
  *     was. (Number and place of the refusal are returned by value.)
  *   - The bytes of the job or of the charge file are never written.
  *   - Refusal 0 is told exactly when no row of the refusal table that belongs to the call holds.
- *   - A job that meets no row that belongs to chargefile_run is run. What then stands in the result buffer is
- *     explained by its own log: the answered operations done one at a time in the log's order, on a
- *     plain list of calls, get the same answers and leave the calls that the file then holds. Its
- *     charge file, where there is one, is that file, and is accepted as a job by itself.
- *   - A charge file that meets no row that belongs to chargefile_tidy is tidied. What is then written is accepted as a job by
- *     itself, so that it can be run like any other. It holds the same calls with the same charges,
- *     no two of its pages can be joined, and tidied again at the same depth it comes out the same.
+ *   - A job that meets no row that belongs to chargefile_run is run. What then stands in the result
+ *     buffer is explained by its own log: the answered operations done one at a time in the log's
+ *     order, on a plain list of calls, get the same answers and leave the calls that the file then
+ *     holds. Its charge file, where there is one, is that file, and is accepted as a job by itself.
+ *   - A charge file that meets no row that belongs to chargefile_tidy is tidied. What is then
+ *     written is accepted as a job by itself, so that it can be run like any other. It holds the
+ *     same calls with the same charges, no two of its pages can be joined, and tidied again at the
+ *     same depth it comes out the same.
  *
  * The caller's part, which no proof of the library can see to:
  *

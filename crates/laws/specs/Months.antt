@@ -22,7 +22,7 @@ use Rattle.spec.specs.Proper.{FileOk}
 use Rattle.spec.specs.Claims.{Accepted, answerAt}
 use Rattle.spec.specs.Months.{Taken, asItIs, tidied, Follows, Months, last, month, lastOf, repliesTold, fedLog, feed, MonthsTogether}
 use Rattle.laws.specs.Tools.{if-both}
-use Rattle.laws.specs.Codec.Accepted.{accepted-file}
+use Rattle.laws.specs.Codec.Accepted.{accepted-file, file-ok}
 use Rattle.laws.specs.Turns.Records.{added-own, added-other, without-own, without-other, same-has}
 use Rattle.laws.specs.Turns.Contents.{contents-lookup, contents-twice}
 use Rattle.laws.specs.Turns.Whole.{end-whole}
@@ -99,10 +99,6 @@ module _ (a : List ℕ) (accepted : Accepted a) (l : List Rec) (h : Finds l (con
   month-finds k = same .1 k ∙ replayed j ok .1 k ∙ sym (contents-lookup (run j .file) (end-whole j ok .good .fit) k)
 
 -- the next month's file holds the same
-file-ok : (a : List ℕ) → Accepted a → FileOk (fileOf a)
-unfolding jobOf
-file-ok a accepted = accepted-file a accepted
-
 taken-finds : (b : List ℕ) (f : File) → AreBytes b → Taken b f → Finds (contents (fileOf b)) (contents f)
 taken-finds b f bytes (asItIs e) = rw e (λ k. refl)
 taken-finds b f bytes (tidied room d n e) =

@@ -1,19 +1,19 @@
 -- The charge file: its header, directory and pages as they are written are the file's bytes.
-use mathlib.Core.Path.{_≡_, refl, sym, ap, _∙_}
+use mathlib.Core.Path.{_≡_, sym, ap, _∙_}
 use mathlib.Core.List.{List, [], _∷_, _++_, append-assoc, append-nil}
 use Prim.Native.Nat.{ℕ, suc, _+_, _*_, _^_, _≤_, _<_}
-use native.Mathlib.Nat.{mul-zero, mod-eq-of-lt}
+use native.Mathlib.Nat.{mul-zero}
 use native.Mathlib.Omega.{arith}
 use lib.Pow.{pow-mono}
-use lib.ListN.{length, getD, take, drop, replicate, length-drop, length-append}
+use lib.ListN.{length, getD, take, drop, length-drop, length-append}
 use lib.Seq.{drop-drop, take-add, getD-drop, length-take-le}
 use Rattle.spec.specs.Basics.{each}
-use Rattle.spec.specs.Bytes.{byte, word, two, four}
+use Rattle.spec.specs.Bytes.{byte, word, two}
 use Rattle.spec.specs.File.{File, zeroPage, pageAt, entryAt}
-use Rattle.spec.specs.Job.{jobVersion, pageSize, tableOffset, opsOffset, turnsOffset, total}
+use Rattle.spec.specs.Job.{pageSize}
 use Rattle.spec.specs.Encode.{headerBytes, headerFor, pageBytes, encodeJob, encodeFile}
 use Rattle.spec.specs.Check.{workSize}
-use Rattle.laws.specs.Codec.Numbers.{low, high, two-read}
+use Rattle.laws.specs.Codec.Numbers.{two-read}
 use Rattle.laws.specs.Codec.Pieces.{two-bytes}
 use Rattle.laws.specs.Codec.Sections.{length-header}
 use Rattle.laws.specs.Codec.Parts.{next-place}

@@ -1,7 +1,7 @@
 -- What finishing a run asks and does: log, header and charge file are written behind the answers.
 use mathlib.Core.Path.{_≡_}
 use mathlib.Core.List.{List, map}
-use Prim.Native.Nat.{ℕ, suc, _+_, _*_, _^_, _≤_, _<_}
+use Prim.Native.Nat.{ℕ, suc, _*_, _^_, _≤_, _<_}
 use lib.ListN.{length, take, drop}
 use Rattle.spec.specs.Basics.{each}
 use Rattle.spec.specs.File.{File, pageAt, entryAt}

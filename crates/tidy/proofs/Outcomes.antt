@@ -1,27 +1,25 @@
 -- What a call comes to, refused or done, step by step.
 use Prim.Native.Nat.{ℕ, _+_, _≤_}
-use mathlib.Core.Path.{_≡_, ap, _∙_}
-use mathlib.Core.List.{List, _++_}
+use mathlib.Core.Path.{_≡_, _∙_}
+use mathlib.Core.List.{List}
 use mathlib.Core.Option.{Option, none, some}
-use native.Mathlib.Omega.{arith}
-use lib.ListN.{length, drop}
+use lib.ListN.{length}
 use borrow.Author.Tests.{eq-eqb, ne-eqb}
 use Rattle.spec.specs.declared.Outcome.{Outcome}
 use Rattle.spec.specs.declared.Outcome.the-variants.{Done, Refused}
 use Rattle.spec.specs.Basics.{when, orElse}
 use Rattle.spec.specs.Bytes.{AreBytes}
-use Rattle.spec.specs.Decode.{headerOf, fileOf, jobOf}
+use Rattle.spec.specs.Decode.{headerOf, fileOf}
 use Rattle.spec.specs.Check.{Fault, numbered, jobFault}
-use Rattle.spec.specs.Proper.{FileOk}
 use Rattle.spec.specs.Outcome.{outcomeBy, afterCall, bufferBy}
 use Rattle.spec.specs.Tidy.{tidyBytes, opsPresent, tidyFault, tidyOutcome, tidyBuffer}
-use Rattle.laws.specs.Codec.Accepted.{accepted-file}
+use Rattle.laws.specs.Codec.Accepted.{file-ok}
 use Rattle.laws.specs.Tidy.Bytes.{joined, tidied}
 use Rattle.header.specs.declared.Header.{Header}
 use Rattle.header.specs.Counts.{countsOf}
 use Rattle.header.specs.Accepted.{accepted-heads}
 use Rattle.wire.specs.Over.{over}
-use Rattle.wire.specs.OverLaws.{over-parts}
+use Rattle.wire.specs.OverLaws.{over-front}
 use Rattle.tidy.specs.Given.{Given}
 use Rattle.tidy.specs.Call.{Settled, outputFault, fileFault, Comes}
 
@@ -29,11 +27,6 @@ use Rattle.tidy.specs.Call.{Settled, outputFault, fileFault, Comes}
 pub comes-refused : {fault : Option Fault} {d : ℕ} {b s : List ℕ} (n p : ℕ) → fault ≡ some (record { number = n; place = p }) → Comes fault d b s s (Refused n p)
 unfolding outcomeBy bufferBy afterCall
 comes-refused n p e = record { answer = rw e; output = rw e }
-
-front : (x s : List ℕ) → length x ≤ length s → over s 0 x ≡ x ++ drop (length x) s
-front x s l =
-    let z : 0 + length x ≡ length x = omega arith in
-    over-parts x s 0 (omega arith) ∙ ap (λ n. x ++ drop n s) z
 
 pub comes-done
     : {fault : Option Fault} {d : ℕ} {b s t : List ℕ} {n : ℕ}
@@ -44,7 +37,7 @@ pub comes-done
     → Comes fault d b s t (Done n)
 unfolding outcomeBy bufferBy afterCall
 comes-done {d = d} {b = b} {s = s} e l w u =
-    record { answer = rw (e, l); output = rw e (w ∙ front (tidyBytes d b) s u) }
+    record { answer = rw (e, l); output = rw e (w ∙ over-front (tidyBytes d b) s u) }
 
 -- 18, or what is behind it
 ops-there : (b : List ℕ) → (headerOf b .ops ≡ 0 → ⊥) → opsPresent b ≡ some 8
@@ -72,13 +65,9 @@ pub by-job : (room d : ℕ) (b : List ℕ) (f : Fault) → jobFault b ≡ some f
 unfolding tidyFault orElse
 by-job room d b f e = rw e
 
--- an accepted file, and its header
-proper : (b : List ℕ) → jobFault b ≡ none → FileOk (fileOf b)
-unfolding jobOf
-proper b e = accepted-file b e
-
+-- an accepted file, with its header
 pub given : (h : Header) (b : List ℕ) → AreBytes b → jobFault b ≡ none → countsOf h ≡ headerOf b → Given h b
-given h b bytes e c = record { bytes = bytes; accepted = e; heads = accepted-heads h b e c; ok = proper b e }
+given h b bytes e c = record { bytes = bytes; accepted = e; heads = accepted-heads h b e c; ok = file-ok b e }
 
 -- THE CALL
 pub settled
@@ -89,4 +78,4 @@ pub settled
     → Settled b d s t r
 unfolding tidyOutcome tidyBuffer
 settled {d = d} {b = b} {s = s} bytes e c =
-    record { answer = rw e (c .answer); output = rw e (c .output); joined = λ n. joined (fileOf b) (proper b n); tidied = tidied (length s) d b bytes }
+    record { answer = rw e (c .answer); output = rw e (c .output); joined = λ n. joined (fileOf b) (file-ok b n); tidied = tidied (length s) d b bytes }

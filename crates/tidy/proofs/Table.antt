@@ -1,5 +1,5 @@
 -- The directory and the page table, written front to back: one round of each loop, and the end.
-use mathlib.Core.Path.{_≡_, refl, sym, ap, _∙_}
+use mathlib.Core.Path.{_≡_, sym, ap, _∙_}
 use mathlib.Core.List.{List, _++_, map}
 use Prim.Native.Nat.{ℕ, zero, suc, _+_, _-_, _*_, _^_, _≤_, _<_}
 use native.Mathlib.Nat.{mul-le-mul, mul-le-mul-left}
@@ -17,7 +17,7 @@ use Rattle.spec.specs.Tidy.{pagesLeft, ownersFrom}
 use Rattle.laws.specs.Tools.{each-imp}
 use Rattle.laws.specs.Codec.Tools.{every, each-map}
 use Rattle.laws.specs.Codec.Parts.{each-join, each-snoc, length-each}
-use Rattle.laws.specs.Codec.Sections.{length-page}
+use Rattle.laws.specs.Codec.Sections.{length-two, length-page}
 use Rattle.laws.specs.Tidy.Tiles.{Tiles}
 use Rattle.laws.specs.Tidy.Left.{pages-left}
 use Rattle.laws.specs.Tidy.Kept.{left-tiles, left-right, left-few}
@@ -33,10 +33,6 @@ use Rattle.tidy.specs.Given.{Given, Fills}
 use Rattle.tidy.proofs.Known.{depth-is, capacity-is, pages-is}
 
 -- ---- numbers of 2 bytes
-
-length-two : (n : ℕ) → length (two n) ≡ 2
-unfolding two
-length-two n = refl
 
 pub length-twos : (xs : List ℕ) → length (each two xs) ≡ 2 * length xs
 length-twos xs = length-each two 2 xs (every length-two xs)

@@ -76,6 +76,12 @@ pub over-parts : (x s : List ℕ) (at : ℕ) → at + length x ≤ length s → 
 unfolding over
 over-parts x s at h = sets-eq x s at h ∙ append-assoc (take at s) x (drop (at + length x) s)
 
+-- in front
+pub over-front : (x s : List ℕ) → length x ≤ length s → over s 0 x ≡ x ++ drop (length x) s
+over-front x s h =
+    let z : 0 + length x ≡ length x = omega arith in
+    over-parts x s 0 (omega arith) ∙ ap (λ (n : ℕ). x ++ drop n s) z
+
 -- all of it
 pub over-whole : (x s : List ℕ) → length x ≡ length s → over s 0 x ≡ x
 over-whole x s e =

@@ -94,3 +94,7 @@ unfolding jobOf wrongTurn
 accepted-turns b e =
     let us = turnParts (headerOf b) b in
     rw (counted b .ops) (each-map numberOf us .1 (turns-said (headerOf b) us .0 (accepted-rows b .0 e .r10)))
+
+pub file-ok : (b : List ℕ) → jobFault b ≡ none → FileOk (fileOf b)
+unfolding jobOf
+file-ok b e = accepted-file b e

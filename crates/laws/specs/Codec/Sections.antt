@@ -19,7 +19,7 @@ use Rattle.laws.specs.Codec.Tools.{every}
 use Rattle.laws.specs.Codec.Parts.{length-each, parts-each}
 
 -- widths
-length-two : (n : ℕ) → length (two n) ≡ 2
+pub length-two : (n : ℕ) → length (two n) ≡ 2
 unfolding two
 length-two n = refl
 
