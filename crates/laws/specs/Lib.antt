@@ -6,11 +6,12 @@ pub mod Key
 pub mod Turns
 -- the bytes: accepted jobs are proper, and are read and written back exactly
 pub mod Codec
--- the two together: the result and its charge file read back, demand 3 for every accepted job, calls that rise in every page, room in the result
--- buffer
+-- the two together: the result and its charge file read back, demand 3 for every accepted job, calls that rise in every page, the pages told with
+-- the answers, room in the result buffer
 pub mod ReadBack
 pub mod Demand3
 pub mod InOrder
+pub mod PagesTold
 pub mod Room
 -- tidying: which pages are left, in whatever order they are joined; the tidied file; months one after another
 pub mod Tidy
@@ -18,3 +19,7 @@ pub mod Months
 -- the claims weighed: each field as a test that computes, which some wrong machine fails; a failed test refutes the claim
 pub mod Weighed
 pub mod Refutes
+-- the same for the pages told with the answers; and wrong pages, each of which the claim refuses
+pub mod WeighedPages
+pub mod RefutesPages
+pub mod WrongPages

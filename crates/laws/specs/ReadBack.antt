@@ -37,6 +37,7 @@ use Rattle.laws.specs.Turns.Narrow.{EveryRecord, run-every}
 use Rattle.laws.specs.Turns.Fields.{cut, cut-run}
 use Rattle.laws.specs.Turns.Log.{log-says, log-rows}
 use Rattle.laws.specs.Turns.Sizes.{used-le, log-le, code-small}
+use Rattle.laws.specs.Turns.PageTold.{untold, told-used, page-small}
 use Rattle.laws.specs.Turns.Theorem.{answer-count}
 
 -- calls and charges keep their 32 bits through a run: those of every page, and every charge that is answered
@@ -113,7 +114,14 @@ module _ (b : List ℕ) (bytes : AreBytes b) (accepted : jobFault b ≡ none) wh
   answers-fit =
       each-map toldOf (run j .rows) .1
       (each-places (run j .rows) gone .1
-      (λ i l. record { code = code-small j (proper .file) i; used = omega (arith, used-le j i, proper .turnCount); charge = narrow j proper .1 i }))
+      (λ i l.
+      record {
+        code = code-small j (proper .file) i;
+        untold = untold j (proper .file) i;
+        page = λ n. (told-used j (proper .file) i n .0, page-small j (proper .file) i);
+        used = omega (arith, used-le j i, proper .turnCount);
+        charge = narrow j proper .1 i;
+      }))
 
   line-fits : (p : ℕ) → p < length (logOf (run j)) → LineFits (getD (logOf (run j)) p noLine)
   line-fits p l =

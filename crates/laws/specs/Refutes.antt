@@ -41,22 +41,22 @@ unless : {a : Bool} → (not a ≡ true → ⊥) → a ≡ true
 unless {a = true} h = refl
 unless {a = false} h = absurd (h refl)
 
-is-or : {a b : Bool} → (a ≡ false → b ≡ true) → (a || b) ≡ true
+pub is-or : {a b : Bool} → (a ≡ false → b ≡ true) → (a || b) ≡ true
 is-or {a = true} h = refl
 is-or {a = false} h = h refl
 
-is-and : {a b : Bool} → a ≡ true → b ≡ true → (a && b) ≡ true
+pub is-and : {a b : Bool} → a ≡ true → b ≡ true → (a && b) ≡ true
 is-and p q = rw (p, q)
 
 eqb-same : (n : ℕ) → eqb n n ≡ true
 eqb-same n = eq-eqb n n refl
 
-clash : {a : Bool} → a ≡ true → not a ≡ true → ⊥
+pub clash : {a : Bool} → a ≡ true → not a ≡ true → ⊥
 clash {a = true} p q = false≢true q
 clash {a = false} p q = false≢true p
 
 -- a test of every number below n, both ways; and of one
-every-true : (n : ℕ) (f : ℕ → Bool) → ((i : ℕ) → i < n → f i ≡ true) → every n f ≡ true
+pub every-true : (n : ℕ) (f : ℕ → Bool) → ((i : ℕ) → i < n → f i ≡ true) → every n f ≡ true
 unfolding every
 every-true zero f h = refl
 every-true (suc n) f h = is-and (h zero (omega arith)) (every-true n (λ i. f (suc i)) (λ i l. h (suc i) (omega arith)))
@@ -67,7 +67,7 @@ every-at zero f e i l = absurd (omega arith)
 every-at (suc n) f e zero l = and-left (f zero) _ e
 every-at (suc n) f e (suc i) l = every-at n (λ k. f (suc k)) (and-right (f zero) _ e) i (omega arith)
 
-some-true : (n : ℕ) (f : ℕ → Bool) (i : ℕ) → i < n → f i ≡ true → some-of n f ≡ true
+pub some-true : (n : ℕ) (f : ℕ → Bool) (i : ℕ) → i < n → f i ≡ true → some-of n f ≡ true
 some-true n f i l p = is-not (λ e. clash p (every-at n (λ k. not (f k)) e i l))
 
 -- if one of them fails, another test holds
@@ -88,7 +88,7 @@ sameRec-true : (a : Rec) → sameRec a a ≡ true
 unfolding sameRec
 sameRec-true a = is-and (eqb-same (a .call)) (eqb-same (a .charge))
 
-sameFound-true : {a b : Option Rec} → a ≡ b → sameFound a b ≡ true
+pub sameFound-true : {a b : Option Rec} → a ≡ b → sameFound a b ≡ true
 unfolding sameFound
 sameFound-true {a} e = rw (← e) (go a)
   where

@@ -60,3 +60,5 @@ pub mod Interval
 pub mod GoesBy
 pub mod Fields
 pub mod Full
+-- the page that is told with an answer
+pub mod PageTold

@@ -1,7 +1,7 @@
 -- The claims weighed: each field of `Explained` and of `InOrder` as a test that computes, and small jobs on which every test passes, with the
 -- result that is read from the bytes that are written.
 -- For each field there is a changed definition under which its test fails on one of these jobs (tests/edits), so no field is there for nothing.
--- That a test is true where its field holds is proved in Refutes: a test that fails refutes the claim.
+-- That a test is true where its field holds is proved in Refutes: a test that fails refutes the claim. `PagesTold` is weighed in WeighedPages.
 use Prim.Native.Nat.{ℕ, zero, suc}
 use mathlib.Core.Path.{_≡_, refl}
 use mathlib.Core.List.{List, [], _∷_, _++_, map}
@@ -26,7 +26,7 @@ use Rattle.spec.specs.Result.{Line, Result, result, encodeResult, readResult}
 use Rattle.spec.specs.PlainList.{Reply, replyOf}
 use Rattle.spec.specs.Check.{jobFault}
 use Rattle.spec.specs.Claims.{stateAt, times, lineAt, answerAt, opAt, fed}
-use Rattle.spec.specs.Worked.{jobB, jobInsert, jobG}
+use Rattle.spec.specs.Worked.{jobB, jobC, jobInsert, jobG}
 use Rattle.spec.specs.Opened.{opened}
 use Rattle.laws.specs.Tools.{isSome}
 
@@ -114,7 +114,7 @@ ended j i t = not (isDone (stageOf (stateAt j t) i)) && isDone (stageOf (stateAt
 unfoldable pub first : Job → ℕ → ℕ → Bool
 first j i t = eqb (getD (j .turns) t 0) i && every t (λ u. not (eqb (getD (j .turns) u 0) i))
 
-abbrev codeOf : Result → ℕ → ℕ
+abbrev pub codeOf : Result → ℕ → ℕ
 codeOf r i = answerAt r i .code
 
 -- The fields, in the claim's order, of a job and a result.
@@ -256,13 +256,14 @@ twoWriters =
     onePage full (op Insert 4 90 ∷ op Insert 1 10 ∷ op Insert 1 11 ∷ [])
     (times-of 6 0 ++ times-of 4 1 ++ times-of 1 0 ++ times-of 4 2 ++ times-of 2 1 ++ times-of 2 2 ++ times-of 2 0)
 
--- job E; job E stopped after 7 turns; an insert told "no page"; one whose call is there; and those above
+-- job E; job E stopped after 7 turns; an insert told "no page"; one whose call is there; one that goes to a new page; and those above
 abbrev jobs : List Job
 jobs =
     jobOf jobB
     ∷ jobOf jobG
     ∷ jobOf (jobInsert 3)
     ∷ jobOf (jobInsert 1)
+    ∷ jobOf jobC
     ∷ roomy
     ∷ lateReader
     ∷ lateWriter
@@ -273,11 +274,11 @@ jobs =
     ∷ []
 
 -- each with the result that is read from what is written
-abbrev Passes : (Job → Result → Bool) → Type 0
+abbrev pub Passes : (Job → Result → Bool) → Type 0
 Passes test = map (λ (j : Job). test j (readResult (encodeResult (result j)))) jobs ≡ map (λ (j : Job). true) jobs
 
 -- opens the tests, and what they ask, for a proof by computation
-unfoldable tested : Unit {0}
+unfoldable pub tested : Unit {0}
 unfolding isSome stateAt times answerAt fed every sameRec sameFound sameReply same member noneTwice callsRise ofPages samePage sameFile isFile isDone isSearch waits ended first precedes progressAt
 tested = tt
 

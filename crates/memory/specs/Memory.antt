@@ -3,7 +3,8 @@ use Prim.Native.Nat.{ℕ, _+_, _*_}
 use mathlib.Core.List.{List}
 use lib.ListN.{take, drop, replicate}
 use Rattle.spec.specs.Bytes.{byte, word, two}
-use Rattle.spec.specs.File.{Page}
+use Rattle.spec.specs.declared.Found.{Found}
+use Rattle.spec.specs.File.{Page, lookIn, foundOf}
 use Rattle.spec.specs.Job.{pageSize}
 use Rattle.spec.specs.Decode.{pageOf}
 use Rattle.spec.specs.Encode.{pageBytes}
@@ -63,3 +64,7 @@ pageIn c w x = pageOf (partIn c w x)
 
 unfoldable pub withPage : ℕ → List ℕ → ℕ → Page → List ℕ
 withPage c w x p = over w (placeOf c x) (pageBytes c p)
+
+-- page x is looked into for a call, up to the first higher number
+abbrev pub foundIn : ℕ → List ℕ → ℕ → ℕ → Found
+foundIn c w x k = foundOf x (lookIn (pageIn c w x .records) k)

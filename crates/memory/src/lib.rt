@@ -9,15 +9,14 @@ ghost use Prim.Native.Nat.{ℕ, suc, _+_, _-_, _≤_, _<_};
 ghost use lib.Dec.{eqb};
 ghost use lib.ListN.{length, getD, take, drop, replicate};
 ghost use Rattle.spec.specs.Bytes.{byte, word};
-ghost use Rattle.spec.specs.File.{zeroPage, lookIn};
+ghost use Rattle.spec.specs.File.{zeroPage};
 ghost use Rattle.spec.specs.Job.{pageSize};
 ghost use Rattle.spec.specs.Check.{workSize};
-ghost use Rattle.spec.specs.Cases.{foundOf};
 ghost use Rattle.spec.specs.Split.{added, grow, leastShared, splitCount};
 ghost use Rattle.spec.specs.Turn.{cleared};
 ghost use Rattle.wire.specs.Over.{over};
 ghost use Rattle.pieces.specs.Splits.{Splits, Enough};
-ghost use Rattle.memory.specs.Memory.{entryIn, withEntry, lockIn, withLocks, usedIn, withUsed, turnIn, withTurn, placeOf, partIn, pageIn, withPage};
+ghost use Rattle.memory.specs.Memory.{entryIn, withEntry, lockIn, withLocks, usedIn, withUsed, turnIn, withTurn, placeOf, partIn, pageIn, withPage, foundIn};
 ghost use Rattle.memory.specs.Within.{Within, FileIn, Loads};
 ghost use Rattle.memory.specs.Load.{loaded, saved};
 
@@ -118,12 +117,12 @@ pub fn page_count(work: &[u8], c: usize, x: u16) -> usize
     page::count(part(work, c, x))
 }
 
-// What page x has of a call.
+// Page x is looked into for a call.
 pub fn find_in(work: &[u8], c: usize, x: u16, call: u32) -> Found
     requires { ⌜ Within (now work) c x × (length (pageIn c (now work) x .records) ≤ c) ⌝ }
-    ensures { λ r. ⌜ r ≡ foundOf (lookIn (pageIn c (now (work .entry)) x .records) call) ⌝ }
+    ensures { λ r. ⌜ r ≡ foundIn c (now (work .entry)) x call ⌝ }
 {
-    page::find(part(work, c, x), call)
+    page::find(part(work, c, x), x, call)
 }
 
 pub fn least_shared_in(work: &[u8], c: usize, x: u16, call: u32) -> usize

@@ -8,11 +8,10 @@ ghost use Prim.Native.Nat.{_+_, _-_, _≤_, _<_};
 ghost use lib.ListN.{length};
 ghost use Rattle.spec.specs.Bytes.{byte};
 ghost use Rattle.spec.specs.Basics.{each};
-ghost use Rattle.spec.specs.File.{lookIn, putIn};
+ghost use Rattle.spec.specs.File.{lookIn, foundOf, putIn};
 ghost use Rattle.spec.specs.Job.{pageSize};
 ghost use Rattle.spec.specs.Encode.{recordBytes, pageBytes};
 ghost use Rattle.spec.specs.Decode.{pageOf};
-ghost use Rattle.spec.specs.Cases.{foundOf};
 ghost use Rattle.spec.specs.Split.{added};
 ghost use Rattle.spec.specs.Turn.{cleared};
 ghost use Rattle.wire.specs.Over.{over};
@@ -56,9 +55,10 @@ pub fn rec_at(page: &[u8], i: usize) -> Rec
     }
 }
 
-pub fn find(page: &[u8], call: u32) -> Found
+// Page x, whose bytes these are, is looked into for a call: "Looking into a page must .. report which page it was to every caller".
+pub fn find(page: &[u8], x: u16, call: u32) -> Found
     requires { ⌜ pageSize (byte (now page) 1) ≤ length (now page) ⌝ }
-    ensures { λ r. ⌜ r ≡ foundOf (lookIn (pageOf (now (page .entry)) .records) call) ⌝ }
+    ensures { λ r. ⌜ r ≡ foundOf x (lookIn (pageOf (now (page .entry)) .records) call) ⌝ }
 {
     let n = count(page);
     let mut i: usize = 0;
@@ -66,13 +66,13 @@ pub fn find(page: &[u8], call: u32) -> Found
         let r = rec_at(page, i);
         if call <= r.call {
             if r.call == call {
-                return Found::Charge(r.charge);
+                return Found::Charge(x, r.charge);
             }
-            return Found::Missing;
+            return Found::Missing(x);
         }
         i += 1;
     }
-    Found::Missing
+    Found::Missing(x)
 }
 
 // ---- writing

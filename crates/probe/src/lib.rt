@@ -5,27 +5,26 @@ ghost use mathlib.Core.Path.{_≡_};
 ghost use Prim.Native.Nat.{ℕ, suc, _-_, _≤_, _<_};
 ghost use lib.ListN.{length, getD};
 ghost use Rattle.spec.specs.Bytes.{byte};
-ghost use Rattle.spec.specs.File.{zeroPage, lookIn};
+ghost use Rattle.spec.specs.File.{zeroPage, lookIn, foundOf};
 ghost use Rattle.spec.specs.Job.{pageSize};
 ghost use Rattle.spec.specs.Decode.{pageOf};
 ghost use Rattle.spec.specs.Encode.{pageBytes};
 ghost use Rattle.spec.specs.Split.{added, grow, splitCount};
 ghost use Rattle.spec.specs.Turn.{cleared};
-ghost use Rattle.spec.specs.Cases.{foundOf};
 ghost use Rattle.page.specs.Room.{room, Sound};
 ghost use Rattle.pieces.specs.Splits.{Splits, Enough};
 ghost use Rattle.probe.specs.Numbers.{foundNumber, recFor};
 
-// The charge of a call in a page, or 2^32 where it is not there.
+// The charge of a call in page x, or 2^32 where it is not there; and 2^33 times the number of the page.
 #[no_mangle]
-pub extern "C" fn probe_find(page: &[u8], call: u32) -> u64
+pub extern "C" fn probe_find(page: &[u8], x: u16, call: u32) -> u64
     requires { ⌜ pageSize (byte (now page) 1) ≤ length (now page) ⌝ }
-    ensures { λ r. ⌜ r ≡ foundNumber (foundOf (lookIn (pageOf (now (page .entry)) .records) call)) ⌝ }
+    ensures { λ r. ⌜ r ≡ foundNumber (foundOf x (lookIn (pageOf (now (page .entry)) .records) call)) ⌝ }
 {
-    let f = page::find(page, call);
+    let f = page::find(page, x, call);
     match f {
-        Found::Charge(charge) => charge as u64,
-        Found::Missing => 4294967296,
+        Found::Charge(y, charge) => charge as u64 + 8589934592 * y as u64,
+        Found::Missing(y) => 4294967296 + 8589934592 * y as u64,
     }
 }
 

@@ -1,8 +1,11 @@
 -- What an operation's row of numbers tells is what its row in the machine tells.
 use mathlib.Core.Path.{_≡_, refl}
-use mathlib.Core.List.{List, _++_}
-use Prim.Native.Nat.{ℕ, _/_, _%_, _≤_, _<_}
+use mathlib.Core.Logic.{by-cases}
+use mathlib.Core.List.{List}
+use Prim.Native.Nat.{ℕ, _≤_}
 use native.Mathlib.Omega.{arith}
+use native.Mathlib.Decide.{ℕ-discrete}
+use borrow.Author.Tests.{eq-eqb, ne-eqb}
 use Rattle.spec.specs.declared.Task.{Task}
 use Rattle.spec.specs.declared.Task.the-variants.{Verify, Release, Decide, WritePage, WriteOld, Unlock}
 use Rattle.spec.specs.declared.Part.{Part}
@@ -10,29 +13,34 @@ use Rattle.spec.specs.declared.Part.the-variants.{WriteNew, WriteEntry, UnlockN
 use Rattle.spec.specs.declared.Stage.{Stage}
 use Rattle.spec.specs.declared.Stage.the-variants.{NotBegun, ReadPage, Reread, Lock, Held, Split, Done}
 use Rattle.spec.specs.Basics.{if}
-use Rattle.spec.specs.Bytes.{two, four}
+use Rattle.spec.specs.Job.{maxPages}
+use Rattle.spec.specs.Code.{notYet}
 use Rattle.spec.specs.Split.{digit}
 use Rattle.spec.specs.State.{Row as State-Row}
-use Rattle.spec.specs.Result.{toldOf, answerBytes, underWay}
+use Rattle.spec.specs.Result.{toldOf, pageByte, answerBytes, underWay}
 use Rattle.turn.specs.declared.Row.{Row}
 use Rattle.turn.specs.Rows.{stageNumbers, taskNumbers, partNumbers, rowImage}
 use Rattle.laws.specs.Tools.{if-case}
-use Rattle.result.specs.Marks.{markOf, markNumber, begunNumber, withAnswer, withMark, Tells}
+use Rattle.result.specs.Marks.{markOf, markNumber, begunNumber, byteOfPage, rowBytes, withAnswer, withMark, Tells}
 
 mark-image : (r : State-Row) (row : Row) → rowImage r ≡ row → markNumber (row .code) (row .moment) ≡ markOf r
 unfolding markOf rowImage
 mark-image r row e = rw (← e)
 
-answer-image
-    : (r : State-Row) (row : Row)
-    → rowImage r ≡ row
-    → r .code < 256
-    → two (row .code) ++ two (row .used) ++ four (row .charge) ≡ answerBytes (toldOf r)
-unfolding rowImage answerBytes toldOf two
-answer-image r row e h =
-    let low : r .code % 256 ≡ r .code = omega arith in
-    let high : r .code / 256 % 256 ≡ 0 = omega arith in
-    rw (← e, low, high)
+-- a row has no page before it has a code, and its page's number is at most that of the last page that a file can have
+pub record PageKept (r : State-Row) : Type 0 where
+  pub untold : r .code ≡ notYet → r .page ≡ 0
+  pub most : r .page ≤ maxPages
+
+page-image : (r : State-Row) → PageKept r → byteOfPage (r .page) ≡ pageByte (toldOf r)
+unfolding byteOfPage pageByte toldOf if
+page-image r h =
+    by-cases (ℕ-discrete (r .code) notYet) (λ e. rw (eq-eqb (r .code) notYet e, h .untold e))
+    (λ n. rw (ne-eqb (r .code) notYet n) (omega (arith, h .most)))
+
+answer-image : (r : State-Row) (row : Row) → rowImage r ≡ row → PageKept r → rowBytes row ≡ answerBytes (toldOf r)
+unfolding rowImage rowBytes answerBytes toldOf
+answer-image r row e h = rw (← e, page-image r h)
 
 -- every stage but the first and the last is under way
 begun-task : (x : ℕ) (t : Task) → begunNumber (taskNumbers x t .stage) ≡ 1
@@ -68,7 +76,7 @@ begun-image r row e = rw (← e) (begun-stage (r .stage))
 pub tells
     : (r : State-Row) (row : Row) (i : ℕ) (s w : List ℕ)
     → rowImage r ≡ row
-    → r .code < 256
+    → PageKept r
     → Tells r i s (withAnswer row i s) w (withMark row i w) (begunNumber (row .stage))
 unfolding withAnswer withMark
 tells r row i s w e h =

@@ -3,10 +3,8 @@
 use header::Header;
 use turn::Row;
 ghost use mathlib.Core.Path.{_≡_};
-ghost use mathlib.Core.List.{_++_};
 ghost use Prim.Native.Nat.{_+_, _*_, _^_, _≤_, _<_};
 ghost use lib.ListN.{length};
-ghost use Rattle.spec.specs.Bytes.{two, four};
 ghost use Rattle.spec.specs.File.{File};
 ghost use Rattle.spec.specs.Encode.{encodeFile};
 ghost use Rattle.spec.specs.Check.{workSize};
@@ -14,23 +12,35 @@ ghost use Rattle.spec.specs.Result.{Result, resultOf, lineBytes, resultHeader};
 ghost use Rattle.spec.specs.State.{State};
 ghost use Rattle.wire.specs.Over.{over};
 ghost use Rattle.header.specs.File.{fileSize};
-ghost use Rattle.result.specs.Marks.{markNumber, begunNumber, withAnswer, withMark};
+ghost use Rattle.result.specs.Marks.{markNumber, begunNumber, byteOfPage, rowBytes, withAnswer, withMark};
 ghost use Rattle.result.specs.Lines.{line, withLine, LogWritten};
 ghost use Rattle.result.specs.Finish.{Heads, FileShown, Ready, Finished};
 
-// "Header, 24 bytes: version 1, .." The charge file behind it is a job, and has the job's version.
-const RESULT_VERSION: usize = 1;
+// "The result's version is 2". The charge file in it is a job, and has the job's version.
+const RESULT_VERSION: usize = 2;
 
 const ANSWERS: usize = 24;
 
 // ---- answers
 
-// "Answer, 8 bytes: code, zero byte, turns used without waiting (2), charge (4)": a code is less than 256.
+// "the page number less one". A row without an answer has no page, which is 0: "For code 0 it stays zero". (The remainder is for rows that no run
+// makes: a page told is at most 256.)
+fn page_byte(x: u16) -> u8
+    ensures { λ r. ⌜ r ≡ byteOfPage x ⌝ }
+{
+    if x == 0 {
+        return 0;
+    }
+    ((x - 1) % 256) as u8
+}
+
+// "Answer, 8 bytes: code, [page] byte, turns used without waiting (2), charge (4)"
 fn put_answer(result: &mut [u8], at: usize, row: Row)
     requires { ⌜ at + 8 ≤ length (now result) ⌝ }
-    ensures { λ _. ⌜ now (result .exit) ≡ over (now (result .entry)) at (two (row .code) ++ two (row .used) ++ four (row .charge)) ⌝ }
+    ensures { λ _. ⌜ now (result .exit) ≡ over (now (result .entry)) at (rowBytes row) ⌝ }
 {
-    wire::put_u16(result, at, row.code as usize);
+    result[at] = row.code;
+    result[at + 1] = page_byte(row.told);
     wire::put_u16(result, at + 2, row.used as usize);
     wire::put_u32(result, at + 4, row.charge);
 }
@@ -46,7 +56,7 @@ fn mark(row: Row) -> usize
 }
 
 // 1 where the operation is begun but unfinished, by the number of its stage: 0 is not begun, 13 is done.
-fn begun(stage: u16) -> usize
+fn begun(stage: u8) -> usize
     ensures { λ r. ⌜ (r ≡ begunNumber stage) × (r ≤ 1) ⌝ }
 {
     if stage == 0 {
@@ -122,7 +132,7 @@ fn write_log(work: &[u8], m: usize, result: &mut [u8], at: usize) -> usize
 
 // ---- header and charge file
 
-// "Header, 24 bytes: version 1, m, log length L, operations begun but unfinished (2 bytes each); offsets of answers, log and charge file,
+// "Header, 24 bytes: version .., m, log length L, operations begun but unfinished (2 bytes each); offsets of answers, log and charge file,
 // .., and the total (4 each)"
 fn write_header(result: &mut [u8], m: usize, lines: usize, under: usize, file: usize, total: usize)
     requires { ⌜ (24 ≤ length (now result)) × (m ≤ 256) × (file < 2 ^ 32) × (total < 2 ^ 32) ⌝ }

@@ -14,7 +14,7 @@ use Rattle.spec.specs.Check.{workSize, resultSize}
 use Rattle.spec.specs.Claims.{stateAt}
 use Rattle.spec.specs.Outcome.{resultBytes}
 use Rattle.laws.specs.Room.{run-shaped}
-use Rattle.laws.specs.Turns.Sizes.{code-small}
+use Rattle.laws.specs.Turns.PageTold.{untold, page-small}
 use Rattle.laws.specs.Turns.States.{stateAt-end, run-now}
 use Rattle.laws.specs.Turns.Whole.{Whole, end-whole}
 use Rattle.header.specs.declared.Header.{Header}
@@ -22,7 +22,7 @@ use Rattle.header.specs.Counts.{countsOf}
 use Rattle.turn.specs.Rows.{rowImage, blankRow}
 use Rattle.simulation.specs.Shown.{Shown}
 use Rattle.result.specs.Finish.{FileShown, Ready, Finished}
-use Rattle.result.specs.Image.{tells}
+use Rattle.result.specs.Image.{PageKept, tells}
 use Rattle.result.specs.Telling.{Telling, none-told, one-told, ready, buffer}
 use Rattle.table.specs.Turns.{Both}
 use Rattle.table.specs.Told.{Told, told, tellRow, tellRows}
@@ -44,6 +44,9 @@ module _ {h : Header} {b : List ℕ} (a : Accepts h b) where
 
   moment-past : (i : ℕ) → (rowOf s i .code ≡ notYet → ⊥) → rowOf s i .moment < s .now
   moment-past i n = whole .past .right i n .1
+
+  page-kept : (i : ℕ) → PageKept (rowOf s i)
+  page-kept i = record { untold = untold (jobOf b) (proper a .file) i; most = page-small (jobOf b) (proper a .file) i }
 
   turns-few : s .now ≤ 16384
   turns-few = omega (arith, run-now (jobOf b), proper a .turnCount)
@@ -67,7 +70,7 @@ module _ {h : Header} {b : List ℕ} (a : Accepts h b) where
           let w : workSize ≤ length (q .work) = omega (arith, shown .picture .long, t .rest .size) in
           rw (add-one i) at
           (one-told (omega (arith, rows-are)) (omega (arith, heads a .limits .ops)) w (λ n. omega (arith, moment-past i n, turns-few)) t
-          (tells (getD (s .rows) i gone) (getD (o .rows) i blankRow) i (q .result) (q .work) (row-is i l) (code-small (jobOf b) (proper a .file) i)))
+          (tells (getD (s .rows) i gone) (getD (o .rows) i blankRow) i (q .result) (q .work) (row-is i l) (page-kept i)))
 
       telling : (i : ℕ) → i ≤ h .ops → TellingBy i (tellRows (o .rows) i (told x (o .work) 0))
       unfolding tellRows

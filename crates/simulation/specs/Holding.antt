@@ -19,11 +19,11 @@ use Rattle.spec.specs.declared.Stage.{Stage}
 use Rattle.spec.specs.declared.Stage.the-variants.{Lock, Held, Done}
 use Rattle.spec.specs.Basics.{if}
 use Rattle.spec.specs.Code.{alreadyThere, absent, noDepth, noPage}
-use Rattle.spec.specs.File.{Page, pageAt, entryAt, isNot, without}
+use Rattle.spec.specs.File.{Page, pageAt, entryAt, isNot, without, foundOf}
 use Rattle.spec.specs.Job.{noOp}
 use Rattle.spec.specs.Split.{digit, added, allShare, splitCount}
 use Rattle.spec.specs.State.{State, Move, goLock}
-use Rattle.spec.specs.Turn.{homeOf, recOf, planOf, newCount, cleared, placed, decided, written, verified, heldTurn, turn}
+use Rattle.spec.specs.Turn.{homeOf, recOf, planOf, newCount, cleared, placed, decided, struck, written, verified, heldTurn, turn}
 use Rattle.spec.specs.Run.{rowOf}
 use Rattle.spec.specs.Proper.{PageNo, In}
 use Rattle.laws.specs.Tools.{if-both, filter-le}
@@ -35,7 +35,7 @@ use Rattle.laws.specs.Turns.Work.{WorkTask}
 use Rattle.memory.specs.Memory.{lockIn, withLocks, turnIn}
 use Rattle.turn.specs.declared.Row.{Row}
 use Rattle.turn.specs.Rows.{rowImage, moved}
-use Rattle.turn.specs.Steps.{Out, out, memLock, memVerified, memRefused, memTaken, memFull, memPlaced, memDecided, memWritten, memHeld, memTurn}
+use Rattle.turn.specs.Steps.{Out, out, memLock, memVerified, memRefused, memTaken, memFull, memPlaced, memDecided, memStruck, memWritten, memHeld, memTurn}
 use Rattle.simulation.specs.Shown.{shapeOf, Shown}
 use Rattle.simulation.specs.RowBack.{told}
 use Rattle.simulation.specs.Steady.{Steady}
@@ -82,10 +82,10 @@ module _ (ops : List Op) (s : State) (i : ℕ) (w : List ℕ) (st : Steady ops s
       if-both Does (λ a. goes-on ops s i w st h _)
       (λ a.
       rw (allShare-least (s .file .g) (p .records) (op .call) (fit-32 (s .file) (st .good .fit)), h .picture .used)
-      (if-both Does (λ b. tells ops s i w st h _ noDepth 0 (s .now))
+      (if-both Does (λ b. tells ops s i w st h _ noDepth 0 x (s .now))
       (λ b.
       rw (count a (allShare-least (s .file .g) (p .records) (op .call) (fit-32 (s .file) (st .good .fit)) ∙ b))
-      (if-both Does (λ c. tells ops s i w st h _ noPage 0 (s .now))
+      (if-both Does (λ c. tells ops s i w st h _ noPage 0 x (s .now))
       (λ c.
       rw add-one
       (let u = ltb-false (s .file .limit) (s .file .used + splitCount p (op .call)) c in
@@ -108,13 +108,20 @@ module _ (ops : List Op) (s : State) (i : ℕ) (w : List ℕ) (st : Steady ops s
       : (x : ℕ) (k : Kind) (o : Option Rec)
       → PageNo (s .file) x
       → entryAt (s .file) (homeOf (s .file) op) ≡ x
-      → Does (decided s op x k o) (memDecided (shapeOf (s .file)) op (s .now) r w x k o)
-  unfolding decided memDecided memRefused
-  on-decide x Search o n e = goes-on ops s i w st h _
+      → Does (decided s op k (foundOf x o)) (memDecided (shapeOf (s .file)) op (s .now) r w k (foundOf x o))
+  unfolding decided memDecided memRefused foundOf
+  on-decide x Search none n e = goes-on ops s i w st h _
+  on-decide x Search (some c) n e = goes-on ops s i w st h _
   on-decide x Insert none n e = rw (page-used ops s w st h x n) (on-placed x n e)
-  on-decide x Insert (some c) n e = tells ops s i w st h _ alreadyThere (c .charge) (s .now)
-  on-decide x Delete none n e = tells ops s i w st h _ absent 0 (s .now)
+  on-decide x Insert (some c) n e = tells ops s i w st h _ alreadyThere (c .charge) x (s .now)
+  on-decide x Delete none n e = tells ops s i w st h _ absent 0 x (s .now)
   on-decide x Delete (some c) n e = goes-on ops s i w st h _
+
+  -- a delete's answer, by what it finds
+  struck-is : (x : ℕ) (o : Option Rec) → memStruck (s .now) r (foundOf x o) ≡ told (moved r (Held x Unlock)) (struck (s .now) (foundOf x o))
+  unfolding memStruck struck told foundOf
+  struck-is x none = refl
+  struck-is x (some c) = refl
 
   -- the page is written
   on-write
@@ -129,7 +136,7 @@ module _ (ops : List Op) (s : State) (i : ℕ) (w : List ℕ) (st : Steady ops s
       paged ops s i w (st .good) (h .picture) _ _ x _ (omega (arith, st .good .fit .within))
       (omega (arith, t .1 e .1, put-length (pageAt (s .file) x .records) (recOf op)))
   on-write x Delete e n t =
-      rw (look-is ops s w st h x (op .call))
+      rw (look-is ops s w st h x (op .call), struck-is)
       (paged ops s i w (st .good) (h .picture) _ _ x _ (omega (arith, st .good .fit .within))
       (let l = filter-le (isNot (op .call)) (pageAt (s .file) x .records) in omega (arith, st .coherent .pages x .room)))
 

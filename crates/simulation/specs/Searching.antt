@@ -9,7 +9,7 @@ use Rattle.spec.specs.declared.Op.{Op}
 use Rattle.spec.specs.declared.Stage.{Stage}
 use Rattle.spec.specs.declared.Stage.the-variants.{NotBegun, ReadPage, Reread, Done}
 use Rattle.spec.specs.Code.{found, notFound}
-use Rattle.spec.specs.File.{pageAt, findIn}
+use Rattle.spec.specs.File.{pageAt, findIn, foundOf}
 use Rattle.spec.specs.Job.{noOp}
 use Rattle.spec.specs.State.{State, same, answer, Move, go}
 use Rattle.spec.specs.Turn.{foundMoment, looked, reread, turn}
@@ -42,10 +42,10 @@ module _ (ops : List Op) (s : State) (i : ℕ) (w : List ℕ) (st : Steady ops s
   goes-on to = calm ops s i w (st .good) (h .picture) to same
 
   pub tells
-      : (to : Stage) (k c t : ℕ)
-      → Does (go to (answer k c t)) (out (answered (moved (rowImage (rowOf s i)) to) k c t) w)
+      : (to : Stage) (k c x t : ℕ)
+      → Does (go to (answer k c x t)) (out (answered (moved (rowImage (rowOf s i)) to) k c x t) w)
   unfolding told
-  tells to k c t = calm ops s i w (st .good) (h .picture) to (answer k c t)
+  tells to k c x t = calm ops s i w (st .good) (h .picture) to (answer k c x t)
 
   pub on-begin : Does (turn s op NotBegun) (turned NotBegun)
   unfolding turn memTurn
@@ -67,10 +67,10 @@ module _ (ops : List Op) (s : State) (i : ℕ) (w : List ℕ) (st : Steady ops s
       → PageNo (s .file) x
       → stageOf s i ≡ ReadPage x
       → findIn (pageAt (s .file) x .records) (op .call) ≡ o
-      → Does (looked s op x o) (memLooked (shapeOf (s .file)) op (s .now) (rowImage (rowOf s i)) w x o)
-  unfolding looked memLooked
+      → Does (looked s op (foundOf x o)) (memLooked (shapeOf (s .file)) op (s .now) (rowImage (rowOf s i)) w (foundOf x o))
+  unfolding looked memLooked foundOf
   on-looked x none n e q = goes-on _
-  on-looked x (some c) n e q = rw (found-is x c n e q) (tells Done found (c .charge) _)
+  on-looked x (some c) n e q = rw (found-is x c n e q) (tells Done found (c .charge) x _)
 
   pub on-read : (x : ℕ) → stageOf s i ≡ ReadPage x → PageNo (s .file) x → Does (turn s op (ReadPage x)) (turned (ReadPage x))
   unfolding turn memTurn
@@ -78,4 +78,4 @@ module _ (ops : List Op) (s : State) (i : ℕ) (w : List ℕ) (st : Steady ops s
 
   pub on-reread : (x t : ℕ) → Does (turn s op (Reread x t)) (turned (Reread x t))
   unfolding turn memTurn reread memReread
-  on-reread x t = rw (named-is ops s w st h op) (if-both Does (λ e. tells Done notFound 0 t) (λ e. goes-on _))
+  on-reread x t = rw (named-is ops s w st h op) (if-both Does (λ e. tells Done notFound 0 x t) (λ e. goes-on _))

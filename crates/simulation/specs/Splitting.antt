@@ -41,9 +41,9 @@ use Rattle.simulation.specs.Moves.{Turned, slotWith, locked, paged, ente
 use Rattle.simulation.specs.Reads.{home-is, page-used, plan-is}
 
 -- a row that is answered where a test holds
-told-if : (r : Row) (b : Bool) (k c t : ℕ) → if b (answered r k c t) r ≡ told r (if b (answer k c t) same)
+told-if : (r : Row) (b : Bool) (k c x t : ℕ) → if b (answered r k c x t) r ≡ told r (if b (answer k c x t) same)
 unfolding told
-told-if r b k c t = if-ap (told r) b (answer k c t) same
+told-if r b k c x t = if-ap (told r) b (answer k c x t) same
 
 behind-is : (g : ℕ) (p : Page) → behind g p ≡ endOf g p
 unfolding behind endOf

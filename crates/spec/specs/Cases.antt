@@ -1,20 +1,12 @@
 -- "Where an answer is an enum, a definition sets out this paper's number and values for each of its cases": the answers of single functions.
--- (The cases of `Outcome` are set out in Outcome.antt, those of `Kind` in Job.antt.)
+-- (The cases of `Outcome` are set out in Outcome.antt, those of `Kind` in Job.antt, those of `Found` in File.antt.)
 use Prim.Native.Nat.{ℕ}
 use mathlib.Core.Option.{Option, none, some}
-use Rattle.spec.specs.declared.Rec.{Rec}
-use Rattle.spec.specs.declared.Found.{Found}
-use Rattle.spec.specs.declared.Found.the-variants.{Charge, Missing}
 use Rattle.spec.specs.declared.Spot.{Spot}
 use Rattle.spec.specs.declared.Spot.the-variants.{At, Nowhere}
 use Rattle.spec.specs.declared.Checked.{Checked}
 use Rattle.spec.specs.declared.Checked.the-variants.{Accepted, Refused}
 use Rattle.spec.specs.Check.{Fault}
-
--- looking for a call in a page: the record's charge, or missing
-unfoldable pub foundOf : Option Rec → Found
-foundOf none = Missing
-foundOf (some r) = Charge (r .charge)
 
 -- one row of the refusal table: the lowest place at which it holds, or nowhere
 unfoldable pub spotOf : Option ℕ → Spot

@@ -1,30 +1,34 @@
 -- Demand 3 as one record, `Explained`, of a job and a result; and what is claimed: it holds for every accepted job, given as bytes, and the result
--- that is read from the bytes that are written. Then, for every accepted job, that calls rise in every page, `InOrder`. Definitions only.
+-- that is read from the bytes that are written. Then, for every accepted job, that calls rise in every page, `InOrder`; and of the pages that are
+-- told with the answers, `PagesTold`. Definitions only.
 use Prim.Native.Nat.{ℕ, suc, _<_, _≤_}
 use mathlib.Core.Path.{_≡_}
 use mathlib.Core.Logic.{_⊎_, _↔_}
 use mathlib.Core.List.{List, [], _∷_, _++_, map}
 use mathlib.Core.Bool.{true}
-use mathlib.Core.Option.{none, some}
+use mathlib.Core.Option.{Option, none, some}
 use lib.ListN.{length, getD, take}
 use lib.Dec.{eqb}
 use Rattle.spec.specs.declared.Rec.{Rec}
 use Rattle.spec.specs.declared.Op.{Op}
 use Rattle.spec.specs.declared.Kind.the-variants.{Search}
-use Rattle.spec.specs.declared.Stage.the-variants.{Done}
+use Rattle.spec.specs.declared.Task.the-variants.{Decide}
+use Rattle.spec.specs.declared.Stage.{Stage}
+use Rattle.spec.specs.declared.Stage.the-variants.{ReadPage, Held, Done}
 use Rattle.spec.specs.Basics.{if, Has}
 use Rattle.spec.specs.Bytes.{AreBytes}
-use Rattle.spec.specs.Code.{notYet, noDepth, noPage}
+use Rattle.spec.specs.Code.{notYet, found, notFound, stored, noDepth, noPage}
 use Rattle.spec.specs.File.{File, pageAt, findIn, lookIn, contents}
 use Rattle.spec.specs.Job.{Job, fileJob, noOp}
 use Rattle.spec.specs.Decode.{jobOf}
 use Rattle.spec.specs.State.{State}
+use Rattle.spec.specs.Turn.{entryOf, recOf}
 use Rattle.spec.specs.Run.{idle, stageOf, steps, start, run}
 use Rattle.spec.specs.Result.{Told, Line, Result, readResult}
 use Rattle.spec.specs.PlainList.{NoneTwice, replyOf, nothingTold, Replay, replay}
 use Rattle.spec.specs.Check.{jobFault}
 use Rattle.spec.specs.Outcome.{resultBytes}
-use Rattle.spec.specs.Proper.{CallsRise}
+use Rattle.spec.specs.Proper.{PageNo, CallsRise}
 
 -- the state after the first t turns, that is before turn t (turns count from 0)
 unfoldable pub stateAt : Job → ℕ → State
@@ -144,3 +148,76 @@ pub record InOrder (j : Job) : Type 0 where
 -- CALLS RISE IN EVERY PAGE: so it is in every accepted job, given as its bytes, whatever its turns and wherever they stop
 abbrev pub PagesInOrder : Type 0
 PagesInOrder = (b : List ℕ) → Accepted b → InOrder (jobOf b)
+
+-- turn t was operation i's, which stood at this stage
+pub record Stood (j : Job) (i : ℕ) (st : Stage) (t : ℕ) : Type 0 where
+  pub within : t < length (j .turns)
+  pub named : getD (j .turns) t 0 ≡ i
+  pub stage : stageOf (stateAt j t) i ≡ st
+
+-- "the page last read by a search" is x, and the reading was turn t
+pub record LastRead (j : Job) (i x t : ℕ) : Type 0 where
+  pub read : Stood j i (ReadPage x) t
+  pub last : (y u : ℕ) → Stood j i (ReadPage y) u → u ≤ t
+
+-- the file after the turn of line p, that is at the moment of its operation
+unfoldable pub fileThen : Job → Result → ℕ → File
+fileThen j r p = stateAt j (suc (lineAt r p .moment)) .file
+
+-- what page x of a file has of a call
+abbrev pub inPage : File → ℕ → ℕ → Option Rec
+inPage f x k = findIn (pageAt f x .records) k
+
+-- the call of operation i
+abbrev pub callAt : Job → ℕ → ℕ
+callAt j i = getD (j .ops) i noOp .call
+
+-- of a result: the page told for operation i, and for the operation of line p
+abbrev pub toldAt : Result → ℕ → ℕ
+toldAt r i = answerAt r i .page
+
+abbrev pub lineTold : Result → ℕ → ℕ
+lineTold r p = toldAt r (lineAt r p .op)
+
+-- The pages that the result r of the job j tells with its answers, for "service people [who] look at the page behind an answer".
+pub record PagesTold (j : Job) (r : Result) : Type 0 where
+  -- no page for code 0, and with every other a page that is in use at the end
+  pub untold : (i : ℕ) → answerAt r i .code ≡ notYet → toldAt r i ≡ 0
+  pub inUse : (i : ℕ) → (answerAt r i .code ≡ notYet → ⊥) → PageNo (run j .file) (toldAt r i)
+  -- "the page last read by a search": where it found its call, the page had it then, with the charge told
+  pub finds
+      : (i : ℕ)
+      → answerAt r i .code ≡ found
+      → (t : ℕ)
+      × LastRead j i (toldAt r i) t
+      × (inPage (stateAt j t .file) (toldAt r i) (callAt j i) ≡ some (record { call = callAt j i; charge = answerAt r i .charge }))
+  -- and where it found none, the page did not have it; that reading is the moment
+  pub lacks
+      : (p : ℕ)
+      → p < length (r .log)
+      → answerAt r (lineAt r p .op) .code ≡ notFound
+      → LastRead j (lineAt r p .op) (lineTold r p) (lineAt r p .moment)
+      × (inPage (stateAt j (lineAt r p .moment) .file) (lineTold r p) (opAt j r p .call) ≡ none)
+  -- "the page that holds the call at a stored insert's moment"
+  pub holds
+      : (p : ℕ)
+      → p < length (r .log)
+      → answerAt r (lineAt r p .op) .code ≡ stored
+      → inPage (fileThen j r p) (lineTold r p) (opAt j r p .call) ≡ some (recOf (opAt j r p))
+  -- "the page read in turn (d) by the rest"
+  pub decides
+      : (i : ℕ)
+      → (getD (j .ops) i noOp .kind ≡ Search → ⊥)
+      → (answerAt r i .code ≡ notYet → ⊥)
+      → (answerAt r i .code ≡ stored → ⊥)
+      → (t : ℕ) × Stood j i (Held (toldAt r i) Decide) t
+  -- the page of an insert or a delete is the one that the call's own entry names at its moment
+  pub names
+      : (p : ℕ)
+      → p < length (r .log)
+      → (opAt j r p .kind ≡ Search → ⊥)
+      → entryOf (fileThen j r p) (opAt j r p) ≡ lineTold r p
+
+-- THE PAGE WITH THE ANSWER: so it is of every accepted job, given as its bytes, and what is read from the bytes of its result
+abbrev pub PagesBehind : Type 0
+PagesBehind = (b post : List ℕ) → AreBytes b → Accepted b → PagesTold (jobOf b) (readResult (resultBytes b ++ post))

@@ -6,6 +6,8 @@ use mathlib.Core.Option.{Option, none, some}
 use lib.ListN.{getD, take, drop}
 use lib.Dec.{ltb, eqb}
 use Rattle.spec.specs.declared.Rec.{Rec}
+use Rattle.spec.specs.declared.Found.{Found}
+use Rattle.spec.specs.declared.Found.the-variants.{Charge, Missing}
 use Rattle.spec.specs.Basics.{if, filter}
 use Rattle.spec.specs.Key.{index}
 
@@ -53,6 +55,15 @@ findIn (r ∷ rs) k = if (eqb (r .call) k) (some r) (findIn rs k)
 unfoldable pub lookIn : List Rec → ℕ → Option Rec
 lookIn [] k = none
 lookIn (r ∷ rs) k = if (ltb k (r .call)) none (if (eqb (r .call) k) (some r) (lookIn rs k))
+
+-- "Looking into a page must .. report which page it was to every caller": page x, with the charge of the call's record there, or without
+unfoldable pub foundOf : ℕ → Option Rec → Found
+foundOf x none = Missing x
+foundOf x (some r) = Charge x (r .charge)
+
+-- page x is looked into for a call, among all its records
+abbrev pub lookInto : File → ℕ → ℕ → Found
+lookInto f x k = foundOf x (findIn (pageAt f x .records) k)
 
 -- the records with one more, which goes before the first with a higher number
 unfoldable pub putIn : List Rec → Rec → List Rec

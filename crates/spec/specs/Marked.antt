@@ -1,5 +1,5 @@
 -- The ten marked items of "Jobs worked through" as one table, from job bytes to result bytes, refusal or printed text. One proof covers its rows.
--- A second table is for calls that rise.
+-- A second table is for calls that rise, and a third for the pages told with answers.
 use Prim.Native.Nat.{ℕ}
 use mathlib.Core.Path.{_≡_, refl}
 use mathlib.Core.List.{List, [], _∷_, _++_, map}
@@ -17,7 +17,7 @@ use Rattle.spec.specs.Check.{Lent}
 use Rattle.spec.specs.Outcome.{resultBytes, outcome, bufferAfter}
 use Rattle.spec.specs.Report.{printed}
 use Rattle.spec.specs.Claims.{fed}
-use Rattle.spec.specs.Worked.{jobB, resultB, textB, jobLong, jobC, resultC, jobInsert, resultD, jobG, resultG, jobH, resultH, jobI, resultI, jobJ, resultJ, jobRising, resultRising, jobPut, resultPut, jobTaken, resultTaken}
+use Rattle.spec.specs.Worked.{jobB, resultB, textB, jobLong, jobLate, resultLate, jobRest, resultRest, jobC, resultC, jobInsert, resultD, jobG, resultG, jobH, resultH, jobI, resultI, jobJ, resultJ, jobRising, resultRising, jobPut, resultPut, jobTaken, resultTaken}
 use Rattle.spec.specs.Opened.{opened}
 
 -- what is lent: a result buffer of 1,000 bytes that are all 7, 4 rows, and the least working memory
@@ -113,6 +113,15 @@ rising =
 in-order : map (λ (m : Item). says (m .asked)) rising ≡ map (λ (m : Item). m .paper) rising
 unfolding opened
 in-order = refl
+
+-- "the page last read by a search, the page that holds the call at a stored insert's moment, the page read in turn (d) by the rest. For code 0 it stays
+-- zero": a search that goes on from page 1 to page 2, a deletion in page 2, and each refusal of an operation in page 2
+abbrev told : List Item
+told = (job jobLate ⇒ ran resultLate) ∷ (job jobRest ⇒ ran resultRest) ∷ []
+
+pages-told : map (λ (m : Item). says (m .asked)) told ≡ map (λ (m : Item). m .paper) told
+unfolding opened
+pages-told = refl
 
 -- a list of some thousand turns computes too
 long-list : says (job jobLong) ≡ ran resultB

@@ -53,7 +53,7 @@ plainStep Delete op (some r) told l = plain deleted (r .charge) (without l (op .
 plainStep Delete op none told l = plain absent 0 l
 
 abbrev pub nothingTold : Told
-nothingTold = record { code = 0; charge = 0; used = 0 }
+nothingTold = record { code = 0; page = 0; used = 0; charge = 0 }
 
 -- one line is fed: "each with kind, call and charge as in the job"
 unfoldable pub askLine : List Op → List Told → Line → List Rec → Plain

@@ -15,15 +15,16 @@ use Rattle.spec.specs.Encode.{encodeFile}
 use Rattle.spec.specs.State.{Row, State}
 use Rattle.spec.specs.Run.{run}
 
--- An operation's answer, as the result tells it: code, charge, turns used.
+-- An operation's answer, as the result tells it: code, page, turns used, charge. The page is its number, and 0 for code 0.
 pub record Told : Type 0 where
   pub code : ℕ
-  pub charge : ℕ
+  pub page : ℕ
   pub used : ℕ
+  pub charge : ℕ
 
--- "Charge is the record's for 1, 3, 4 and 5, else 0": the row's charge is set with its code, and is 0 before
+-- "Charge is the record's for 1, 3, 4 and 5, else 0": the row's charge and page are set with its code, and are 0 before
 unfoldable pub toldOf : Row → Told
-toldOf r = record { code = r .code; charge = r .charge; used = r .used }
+toldOf r = record { code = r .code; page = r .page; used = r .used; charge = r .charge }
 
 -- A line of the log.
 pub record Line : Type 0 where
@@ -62,11 +63,11 @@ unfoldable pub countUnder : List Row → ℕ
 countUnder [] = 0
 countUnder (r ∷ rs) = if (underWay (r .stage)) (suc (countUnder rs)) (countUnder rs)
 
--- "version 1": the result's own, whatever the job's is
+-- "The result's version is 2": its own, whatever the job's is
 abbrev pub resultVersion : ℕ
-resultVersion = 1
+resultVersion = 2
 
--- "Header, 24 bytes: version 1, m, log length L, operations begun but unfinished (2 bytes each); offsets of answers, log and charge file, .., and
+-- "Header, 24 bytes: version .., m, log length L, operations begun but unfinished (2 bytes each); offsets of answers, log and charge file, .., and
 -- the total (4 each)": where each field stands
 abbrev pub resultVersionAt : ℕ
 resultVersionAt = 0
@@ -146,15 +147,19 @@ resultOf s =
 unfoldable pub result : Job → Result
 result j = resultOf (run j)
 
--- "Answer, 8 bytes: code, zero byte, turns used without waiting (2), charge (4)"
+-- "The zero byte in an answer becomes the page number less one"; "For code 0 it stays zero"
+unfoldable pub pageByte : Told → ℕ
+pageByte a = if (eqb (a .code) notYet) 0 (a .page - 1)
+
+-- "Answer, 8 bytes: code, [page] byte, turns used without waiting (2), charge (4)"
 unfoldable pub answerBytes : Told → List ℕ
-answerBytes a = (a .code ∷ 0 ∷ []) ++ two (a .used) ++ four (a .charge)
+answerBytes a = (a .code ∷ pageByte a ∷ []) ++ two (a .used) ++ four (a .charge)
 
 -- "Log, 4 bytes a line: moment (a turn number from 0) and operation"
 unfoldable pub lineBytes : Line → List ℕ
 lineBytes l = two (l .moment) ++ two (l .op)
 
--- "Header, 24 bytes: version 1, m, log length L, operations begun but unfinished (2 bytes each); offsets .., and the total (4 each)"
+-- "Header, 24 bytes: version .., m, log length L, operations begun but unfinished (2 bytes each); offsets .., and the total (4 each)"
 unfoldable pub resultHeader : Result → List ℕ
 resultHeader r =
     two (r .version)
@@ -169,9 +174,13 @@ resultHeader r =
 unfoldable pub encodeResult : Result → List ℕ
 encodeResult r = resultHeader r ++ each answerBytes (r .answers) ++ each lineBytes (r .log) ++ fileBytes (r .file)
 
+-- the page of an answer, by the answer's code and the byte: for code 0 what stands there, so that a byte other than zero shows
+unfoldable pub pageTold : ℕ → ℕ → ℕ
+pageTold code p = if (eqb code notYet) p (suc p)
+
 -- An answer and a line, as their bytes say them.
 unfoldable pub answerOf : List ℕ → Told
-answerOf b = record { code = byte b 0; charge = long b 4; used = word b 2 }
+answerOf b = record { code = byte b 0; page = pageTold (byte b 0) (byte b 1); used = word b 2; charge = long b 4 }
 
 unfoldable pub lineOf : List ℕ → Line
 lineOf b = record { moment = word b 0; op = word b 2 }

@@ -46,15 +46,19 @@ locksAfter m l = fill l (m .from) (m .count) (m .value)
 
 unfoldable pub codeAfter : Answer → Row → ℕ
 codeAfter same r = r .code
-codeAfter (answer k c t) r = k
+codeAfter (answer k c x t) r = k
 
 unfoldable pub chargeAfter : Answer → Row → ℕ
 chargeAfter same r = r .charge
-chargeAfter (answer k c t) r = c
+chargeAfter (answer k c x t) r = c
+
+unfoldable pub pageAfter : Answer → Row → ℕ
+pageAfter same r = r .page
+pageAfter (answer k c x t) r = x
 
 unfoldable pub momentAfter : Answer → Row → ℕ
 momentAfter same r = r .moment
-momentAfter (answer k c t) r = t
+momentAfter (answer k c x t) r = t
 
 -- "turns used without waiting"
 abbrev pub rowAfter : Move → Row → Row
@@ -64,6 +68,7 @@ rowAfter m r =
       used = r .used + 1;
       code = codeAfter (m .answer) r;
       charge = chargeAfter (m .answer) r;
+      page = pageAfter (m .answer) r;
       moment = momentAfter (m .answer) r;
     }
 

@@ -9,12 +9,13 @@ use Rattle.spec.specs.Code.{notYet}
 use Rattle.spec.specs.File.{Page, File}
 
 -- "The operations under way stand in one lent table, a row each": where the operation stands, its turns used without waiting, and its
--- answer: code, charge and moment. "The code is set when the operation's moment is known"
+-- answer: code, charge, page and moment. "The code is set when the operation's moment is known": until then there is no page, which is 0
 pub record Row : Type 0 where
   pub stage : Stage
   pub used : ℕ
   pub code : ℕ
   pub charge : ℕ
+  pub page : ℕ
   pub moment : ℕ
 
 -- A directory entry that was changed: on which turn, which entry, and the page that it named before.
@@ -32,10 +33,10 @@ pub record State : Type 0 where
   pub changes : List Change
   pub now : ℕ
 
--- What one turn says of the operation's answer: nothing new; or code, charge and moment.
+-- What one turn says of the operation's answer: nothing new; or code, charge, page and moment.
 pub data Answer : Type 0 where
   same : Answer
-  answer : ℕ → ℕ → ℕ → Answer
+  answer : ℕ → ℕ → ℕ → ℕ → Answer
 
 pub record PageWrite : Type 0 where
   pub number : ℕ
@@ -59,10 +60,10 @@ pub record Move : Type 0 where
 
 -- an operation not begun; and what is read where there is no operation, which takes no turns
 abbrev pub blank : Row
-blank = record { stage = NotBegun; used = 0; code = notYet; charge = 0; moment = 0 }
+blank = record { stage = NotBegun; used = 0; code = notYet; charge = 0; page = 0; moment = 0 }
 
 abbrev pub gone : Row
-gone = record { stage = Done; used = 0; code = notYet; charge = 0; moment = 0 }
+gone = record { stage = Done; used = 0; code = notYet; charge = 0; page = 0; moment = 0 }
 
 -- the kinds of move: nothing shared changes; locks change; a page is written; an entry is written
 abbrev pub go : Stage → Answer → Move

@@ -22,11 +22,11 @@ jobB =
 
 abbrev pub resultB : List ℕ
 resultB =
-    1 ∷ 0 ∷ 4 ∷ 0 ∷ 4 ∷ 0 ∷ 0 ∷ 0 ∷ 24 ∷ 0 ∷ 0 ∷ 0 ∷ 56 ∷ 0 ∷ 0 ∷ 0 ∷ 72 ∷ 0 ∷ 0 ∷ 0 ∷ 148 ∷ 0 ∷ 0 ∷ 0 ∷  -- version, m, L, unfinished; offsets of answers, log and charge file; total
+    2 ∷ 0 ∷ 4 ∷ 0 ∷ 4 ∷ 0 ∷ 0 ∷ 0 ∷ 24 ∷ 0 ∷ 0 ∷ 0 ∷ 56 ∷ 0 ∷ 0 ∷ 0 ∷ 72 ∷ 0 ∷ 0 ∷ 0 ∷ 148 ∷ 0 ∷ 0 ∷ 0 ∷  -- version, m, L, unfinished; offsets of answers, log and charge file; total
     3 ∷ 0 ∷ 9 ∷ 0 ∷ 90 ∷ 0 ∷ 0 ∷ 0 ∷  -- answer 0
     1 ∷ 0 ∷ 2 ∷ 0 ∷ 70 ∷ 0 ∷ 0 ∷ 0 ∷  -- answer 1
-    5 ∷ 0 ∷ 6 ∷ 0 ∷ 70 ∷ 0 ∷ 0 ∷ 0 ∷  -- answer 2
-    2 ∷ 0 ∷ 3 ∷ 0 ∷ 0 ∷ 0 ∷ 0 ∷ 0 ∷  -- answer 3
+    5 ∷ 1 ∷ 6 ∷ 0 ∷ 70 ∷ 0 ∷ 0 ∷ 0 ∷  -- answer 2
+    2 ∷ 1 ∷ 3 ∷ 0 ∷ 0 ∷ 0 ∷ 0 ∷ 0 ∷  -- answer 3
     6 ∷ 0 ∷ 1 ∷ 0 ∷ 12 ∷ 0 ∷ 2 ∷ 0 ∷ 15 ∷ 0 ∷ 3 ∷ 0 ∷ 18 ∷ 0 ∷ 0 ∷ 0 ∷  -- log
     1 ∷ 0 ∷ 1 ∷ 2 ∷ 2 ∷ 0 ∷ 2 ∷ 0 ∷ 0 ∷ 0 ∷ 0 ∷ 0 ∷  -- file: version, g, c, P, U, m, turns
     32 ∷ 0 ∷ 0 ∷ 0 ∷ 36 ∷ 0 ∷ 0 ∷ 0 ∷ 76 ∷ 0 ∷ 0 ∷ 0 ∷ 76 ∷ 0 ∷ 0 ∷ 0 ∷ 76 ∷ 0 ∷ 0 ∷ 0 ∷  -- file: offsets of directory, page table, operations and turns; total
@@ -49,6 +49,50 @@ textB =
     ++ text "page 1 depth 1 pattern 0 : 2=50 4=90\n"
     ++ text "page 2 depth 1 pattern 1 :\n"
 
+-- job E with other turns: the search of call 3 reads its entry first, and the page only after the insert has moved the call to page 2; then the
+-- delete; the last search only begins
+abbrev pub jobLate : List ℕ
+jobLate =
+    take 116 jobB
+    ++ each two (1 ∷ 0 ∷ 0 ∷ 0 ∷ 0 ∷ 0 ∷ 0 ∷ 0 ∷ 0 ∷ 0 ∷ 1 ∷ 1 ∷ 1 ∷ 2 ∷ 2 ∷ 2 ∷ 2 ∷ 2 ∷ 2 ∷ 3 ∷ [])
+
+abbrev pub resultLate : List ℕ
+resultLate =
+    2 ∷ 0 ∷ 4 ∷ 0 ∷ 3 ∷ 0 ∷ 1 ∷ 0 ∷ 24 ∷ 0 ∷ 0 ∷ 0 ∷ 56 ∷ 0 ∷ 0 ∷ 0 ∷ 0 ∷ 0 ∷ 0 ∷ 0 ∷ 68 ∷ 0 ∷ 0 ∷ 0 ∷  -- version, m, L, unfinished; offsets of answers, log and charge file; total
+    3 ∷ 0 ∷ 9 ∷ 0 ∷ 90 ∷ 0 ∷ 0 ∷ 0 ∷  -- answer 0
+    1 ∷ 1 ∷ 4 ∷ 0 ∷ 70 ∷ 0 ∷ 0 ∷ 0 ∷  -- answer 1
+    5 ∷ 1 ∷ 6 ∷ 0 ∷ 70 ∷ 0 ∷ 0 ∷ 0 ∷  -- answer 2
+    0 ∷ 0 ∷ 1 ∷ 0 ∷ 0 ∷ 0 ∷ 0 ∷ 0 ∷  -- answer 3
+    8 ∷ 0 ∷ 0 ∷ 0 ∷ 12 ∷ 0 ∷ 1 ∷ 0 ∷ 17 ∷ 0 ∷ 2 ∷ 0 ∷  -- log
+    []
+
+-- a full page 2 with calls 1 and 5, and no other page to be had: call 1 is inserted, 3 deleted, 9 and 3 inserted, one after another
+abbrev pub jobRest : List ℕ
+jobRest =
+    1 ∷ 0 ∷ 2 ∷ 2 ∷ 2 ∷ 0 ∷ 2 ∷ 0 ∷ 4 ∷ 0 ∷ 20 ∷ 0 ∷  -- version, g, c, P, U, m, turns
+    32 ∷ 0 ∷ 0 ∷ 0 ∷ 40 ∷ 0 ∷ 0 ∷ 0 ∷ 80 ∷ 0 ∷ 0 ∷ 0 ∷ 120 ∷ 0 ∷ 0 ∷ 0 ∷ 160 ∷ 0 ∷ 0 ∷ 0 ∷  -- offsets of directory, page table, operations and turns; total
+    1 ∷ 0 ∷ 1 ∷ 0 ∷ 2 ∷ 0 ∷ 2 ∷ 0 ∷  -- directory
+    1 ∷ 0 ∷ 0 ∷ 0 ∷ 0 ∷ 0 ∷ 0 ∷ 0 ∷ 0 ∷ 0 ∷ 0 ∷ 0 ∷ 0 ∷ 0 ∷ 0 ∷ 0 ∷ 0 ∷ 0 ∷ 0 ∷ 0 ∷  -- page 1
+    1 ∷ 2 ∷ 1 ∷ 0 ∷ 1 ∷ 0 ∷ 0 ∷ 0 ∷ 10 ∷ 0 ∷ 0 ∷ 0 ∷ 5 ∷ 0 ∷ 0 ∷ 0 ∷ 20 ∷ 0 ∷ 0 ∷ 0 ∷  -- page 2
+    2 ∷ 0 ∷ 1 ∷ 0 ∷ 0 ∷ 0 ∷ 30 ∷ 0 ∷ 0 ∷ 0 ∷  -- operation 0
+    3 ∷ 0 ∷ 3 ∷ 0 ∷ 0 ∷ 0 ∷ 0 ∷ 0 ∷ 0 ∷ 0 ∷  -- operation 1
+    2 ∷ 0 ∷ 9 ∷ 0 ∷ 0 ∷ 0 ∷ 30 ∷ 0 ∷ 0 ∷ 0 ∷  -- operation 2
+    2 ∷ 0 ∷ 3 ∷ 0 ∷ 0 ∷ 0 ∷ 30 ∷ 0 ∷ 0 ∷ 0 ∷  -- operation 3
+    0 ∷ 0 ∷ 0 ∷ 0 ∷ 0 ∷ 0 ∷ 0 ∷ 0 ∷ 0 ∷ 0 ∷ 1 ∷ 0 ∷ 1 ∷ 0 ∷ 1 ∷ 0 ∷ 1 ∷ 0 ∷ 1 ∷ 0 ∷ 2 ∷ 0 ∷ 2 ∷ 0 ∷ 2 ∷ 0 ∷ 2 ∷ 0 ∷ 2 ∷ 0 ∷ 3 ∷ 0 ∷ 3 ∷ 0 ∷ 3 ∷ 0 ∷ 3 ∷ 0 ∷ 3 ∷ 0 ∷  -- turns
+    []
+
+abbrev pub resultRest : List ℕ
+resultRest =
+    (2 ∷ 0 ∷ 4 ∷ 0 ∷ 4 ∷ 0 ∷ 0 ∷ 0 ∷ 24 ∷ 0 ∷ 0 ∷ 0 ∷ 56 ∷ 0 ∷ 0 ∷ 0 ∷ 72 ∷ 0 ∷ 0 ∷ 0 ∷ 152 ∷ 0 ∷ 0 ∷ 0 ∷  -- version, m, L, unfinished; offsets of answers, log and charge file; total
+    4 ∷ 1 ∷ 5 ∷ 0 ∷ 10 ∷ 0 ∷ 0 ∷ 0 ∷  -- answer 0
+    6 ∷ 1 ∷ 5 ∷ 0 ∷ 0 ∷ 0 ∷ 0 ∷ 0 ∷  -- answer 1
+    7 ∷ 1 ∷ 5 ∷ 0 ∷ 0 ∷ 0 ∷ 0 ∷ 0 ∷  -- answer 2
+    8 ∷ 1 ∷ 5 ∷ 0 ∷ 0 ∷ 0 ∷ 0 ∷ 0 ∷  -- answer 3
+    3 ∷ 0 ∷ 0 ∷ 0 ∷ 8 ∷ 0 ∷ 1 ∷ 0 ∷ 13 ∷ 0 ∷ 2 ∷ 0 ∷ 18 ∷ 0 ∷ 3 ∷ 0 ∷  -- log
+    1 ∷ 0 ∷ 2 ∷ 2 ∷ 2 ∷ 0 ∷ 2 ∷ 0 ∷ 0 ∷ 0 ∷ 0 ∷ 0 ∷  -- file: version, g, c, P, U, m, turns
+    32 ∷ 0 ∷ 0 ∷ 0 ∷ 40 ∷ 0 ∷ 0 ∷ 0 ∷ 80 ∷ 0 ∷ 0 ∷ 0 ∷ 80 ∷ 0 ∷ 0 ∷ 0 ∷ 80 ∷ 0 ∷ 0 ∷ 0 ∷ [])  -- file: offsets of directory, page table, operations and turns; total
+    ++ take 48 (drop 32 jobRest)  -- file: directory and pages, as they were
+
 -- (C)
 abbrev pub jobC : List ℕ
 jobC =
@@ -64,8 +108,8 @@ jobC =
 
 abbrev pub resultC : List ℕ
 resultC =
-    1 ∷ 0 ∷ 1 ∷ 0 ∷ 1 ∷ 0 ∷ 0 ∷ 0 ∷ 24 ∷ 0 ∷ 0 ∷ 0 ∷ 32 ∷ 0 ∷ 0 ∷ 0 ∷ 36 ∷ 0 ∷ 0 ∷ 0 ∷ 136 ∷ 0 ∷ 0 ∷ 0 ∷  -- version, m, L, unfinished; offsets of answers, log and charge file; total
-    3 ∷ 0 ∷ 11 ∷ 0 ∷ 30 ∷ 0 ∷ 0 ∷ 0 ∷  -- answer 0
+    2 ∷ 0 ∷ 1 ∷ 0 ∷ 1 ∷ 0 ∷ 0 ∷ 0 ∷ 24 ∷ 0 ∷ 0 ∷ 0 ∷ 32 ∷ 0 ∷ 0 ∷ 0 ∷ 36 ∷ 0 ∷ 0 ∷ 0 ∷ 136 ∷ 0 ∷ 0 ∷ 0 ∷  -- version, m, L, unfinished; offsets of answers, log and charge file; total
+    3 ∷ 2 ∷ 11 ∷ 0 ∷ 30 ∷ 0 ∷ 0 ∷ 0 ∷  -- answer 0
     7 ∷ 0 ∷ 0 ∷ 0 ∷  -- log
     1 ∷ 0 ∷ 2 ∷ 2 ∷ 3 ∷ 0 ∷ 3 ∷ 0 ∷ 0 ∷ 0 ∷ 0 ∷ 0 ∷  -- file: version, g, c, P, U, m, turns
     32 ∷ 0 ∷ 0 ∷ 0 ∷ 40 ∷ 0 ∷ 0 ∷ 0 ∷ 100 ∷ 0 ∷ 0 ∷ 0 ∷ 100 ∷ 0 ∷ 0 ∷ 0 ∷ 100 ∷ 0 ∷ 0 ∷ 0 ∷  -- file: offsets of directory, page table, operations and turns; total
@@ -89,8 +133,8 @@ jobRising =
 
 abbrev pub resultRising : List ℕ
 resultRising =
-    1 ∷ 0 ∷ 1 ∷ 0 ∷ 1 ∷ 0 ∷ 0 ∷ 0 ∷ 24 ∷ 0 ∷ 0 ∷ 0 ∷ 32 ∷ 0 ∷ 0 ∷ 0 ∷ 36 ∷ 0 ∷ 0 ∷ 0 ∷ 128 ∷ 0 ∷ 0 ∷ 0 ∷  -- version, m, L, unfinished; offsets of answers, log and charge file; total
-    3 ∷ 0 ∷ 9 ∷ 0 ∷ 30 ∷ 0 ∷ 0 ∷ 0 ∷  -- answer 0
+    2 ∷ 0 ∷ 1 ∷ 0 ∷ 1 ∷ 0 ∷ 0 ∷ 0 ∷ 24 ∷ 0 ∷ 0 ∷ 0 ∷ 32 ∷ 0 ∷ 0 ∷ 0 ∷ 36 ∷ 0 ∷ 0 ∷ 0 ∷ 128 ∷ 0 ∷ 0 ∷ 0 ∷  -- version, m, L, unfinished; offsets of answers, log and charge file; total
+    3 ∷ 1 ∷ 9 ∷ 0 ∷ 30 ∷ 0 ∷ 0 ∷ 0 ∷  -- answer 0
     5 ∷ 0 ∷ 0 ∷ 0 ∷  -- log
     1 ∷ 0 ∷ 1 ∷ 3 ∷ 2 ∷ 0 ∷ 2 ∷ 0 ∷ 0 ∷ 0 ∷ 0 ∷ 0 ∷  -- file: version, g, c, P, U, m, turns
     32 ∷ 0 ∷ 0 ∷ 0 ∷ 36 ∷ 0 ∷ 0 ∷ 0 ∷ 92 ∷ 0 ∷ 0 ∷ 0 ∷ 92 ∷ 0 ∷ 0 ∷ 0 ∷ 92 ∷ 0 ∷ 0 ∷ 0 ∷  -- file: offsets of directory, page table, operations and turns; total
@@ -113,7 +157,7 @@ jobPut call =
 -- its result, with these calls and charges in the page
 abbrev pub resultPut : List ℕ → List ℕ
 resultPut records =
-    (1 ∷ 0 ∷ 1 ∷ 0 ∷ 1 ∷ 0 ∷ 0 ∷ 0 ∷ 24 ∷ 0 ∷ 0 ∷ 0 ∷ 32 ∷ 0 ∷ 0 ∷ 0 ∷ 36 ∷ 0 ∷ 0 ∷ 0 ∷ 98 ∷ 0 ∷ 0 ∷ 0 ∷  -- version, m, L, unfinished; offsets of answers, log and charge file; total
+    (2 ∷ 0 ∷ 1 ∷ 0 ∷ 1 ∷ 0 ∷ 0 ∷ 0 ∷ 24 ∷ 0 ∷ 0 ∷ 0 ∷ 32 ∷ 0 ∷ 0 ∷ 0 ∷ 36 ∷ 0 ∷ 0 ∷ 0 ∷ 98 ∷ 0 ∷ 0 ∷ 0 ∷  -- version, m, L, unfinished; offsets of answers, log and charge file; total
     3 ∷ 0 ∷ 6 ∷ 0 ∷ 30 ∷ 0 ∷ 0 ∷ 0 ∷  -- answer 0
     4 ∷ 0 ∷ 0 ∷ 0 ∷  -- log
     1 ∷ 0 ∷ 0 ∷ 3 ∷ 1 ∷ 0 ∷ 1 ∷ 0 ∷ 0 ∷ 0 ∷ 0 ∷ 0 ∷  -- file: version, g, c, P, U, m, turns
@@ -147,7 +191,7 @@ jobInsert call = set jobD 82 call
 -- their result, but for code and charge
 abbrev pub resultD : ℕ → ℕ → List ℕ
 resultD code charge =
-    1 ∷ 0 ∷ 1 ∷ 0 ∷ 1 ∷ 0 ∷ 0 ∷ 0 ∷ 24 ∷ 0 ∷ 0 ∷ 0 ∷ 32 ∷ 0 ∷ 0 ∷ 0 ∷ 36 ∷ 0 ∷ 0 ∷ 0 ∷ 116 ∷ 0 ∷ 0 ∷ 0 ∷  -- version, m, L, unfinished; offsets of answers, log and charge file; total
+    2 ∷ 0 ∷ 1 ∷ 0 ∷ 1 ∷ 0 ∷ 0 ∷ 0 ∷ 24 ∷ 0 ∷ 0 ∷ 0 ∷ 32 ∷ 0 ∷ 0 ∷ 0 ∷ 36 ∷ 0 ∷ 0 ∷ 0 ∷ 116 ∷ 0 ∷ 0 ∷ 0 ∷  -- version, m, L, unfinished; offsets of answers, log and charge file; total
     code ∷ 0 ∷ 5 ∷ 0 ∷ charge ∷ 0 ∷ 0 ∷ 0 ∷  -- answer 0
     3 ∷ 0 ∷ 0 ∷ 0 ∷  -- log
     1 ∷ 0 ∷ 2 ∷ 2 ∷ 2 ∷ 0 ∷ 1 ∷ 0 ∷ 0 ∷ 0 ∷ 0 ∷ 0 ∷  -- file: version, g, c, P, U, m, turns
@@ -174,7 +218,7 @@ jobG =
 
 abbrev pub resultG : List ℕ
 resultG =
-    1 ∷ 0 ∷ 4 ∷ 0 ∷ 0 ∷ 0 ∷ 2 ∷ 0 ∷ 24 ∷ 0 ∷ 0 ∷ 0 ∷ 56 ∷ 0 ∷ 0 ∷ 0 ∷ 0 ∷ 0 ∷ 0 ∷ 0 ∷ 56 ∷ 0 ∷ 0 ∷ 0 ∷  -- version, m, L, unfinished; offsets of answers, log and charge file; total
+    2 ∷ 0 ∷ 4 ∷ 0 ∷ 0 ∷ 0 ∷ 2 ∷ 0 ∷ 24 ∷ 0 ∷ 0 ∷ 0 ∷ 56 ∷ 0 ∷ 0 ∷ 0 ∷ 0 ∷ 0 ∷ 0 ∷ 0 ∷ 56 ∷ 0 ∷ 0 ∷ 0 ∷  -- version, m, L, unfinished; offsets of answers, log and charge file; total
     0 ∷ 0 ∷ 6 ∷ 0 ∷ 0 ∷ 0 ∷ 0 ∷ 0 ∷  -- answer 0
     0 ∷ 0 ∷ 1 ∷ 0 ∷ 0 ∷ 0 ∷ 0 ∷ 0 ∷  -- answer 1
     0 ∷ 0 ∷ 0 ∷ 0 ∷ 0 ∷ 0 ∷ 0 ∷ 0 ∷  -- answer 2
@@ -197,7 +241,7 @@ jobH =
 
 abbrev pub resultH : List ℕ
 resultH =
-    1 ∷ 0 ∷ 4 ∷ 0 ∷ 0 ∷ 0 ∷ 0 ∷ 0 ∷ 24 ∷ 0 ∷ 0 ∷ 0 ∷ 56 ∷ 0 ∷ 0 ∷ 0 ∷ 56 ∷ 0 ∷ 0 ∷ 0 ∷ 132 ∷ 0 ∷ 0 ∷ 0 ∷  -- version, m, L, unfinished; offsets of answers, log and charge file; total
+    2 ∷ 0 ∷ 4 ∷ 0 ∷ 0 ∷ 0 ∷ 0 ∷ 0 ∷ 24 ∷ 0 ∷ 0 ∷ 0 ∷ 56 ∷ 0 ∷ 0 ∷ 0 ∷ 56 ∷ 0 ∷ 0 ∷ 0 ∷ 132 ∷ 0 ∷ 0 ∷ 0 ∷  -- version, m, L, unfinished; offsets of answers, log and charge file; total
     0 ∷ 0 ∷ 0 ∷ 0 ∷ 0 ∷ 0 ∷ 0 ∷ 0 ∷  -- answer 0
     0 ∷ 0 ∷ 0 ∷ 0 ∷ 0 ∷ 0 ∷ 0 ∷ 0 ∷  -- answer 1
     0 ∷ 0 ∷ 0 ∷ 0 ∷ 0 ∷ 0 ∷ 0 ∷ 0 ∷  -- answer 2
@@ -219,7 +263,7 @@ jobI g =
 
 -- its result: itself behind a header
 abbrev pub resultI : List ℕ
-resultI = (1 ∷ 0 ∷ 0 ∷ 0 ∷ 0 ∷ 0 ∷ 0 ∷ 0 ∷ 24 ∷ 0 ∷ 0 ∷ 0 ∷ 24 ∷ 0 ∷ 0 ∷ 0 ∷ 24 ∷ 0 ∷ 0 ∷ 0 ∷ 68 ∷ 2 ∷ 0 ∷ 0 ∷ []) ++ jobI 8
+resultI = (2 ∷ 0 ∷ 0 ∷ 0 ∷ 0 ∷ 0 ∷ 0 ∷ 0 ∷ 24 ∷ 0 ∷ 0 ∷ 0 ∷ 24 ∷ 0 ∷ 0 ∷ 0 ∷ 24 ∷ 0 ∷ 0 ∷ 0 ∷ 68 ∷ 2 ∷ 0 ∷ 0 ∷ []) ++ jobI 8
 
 -- job E with its turns a hundred times over, 2,000 in all: they are finished after the first twenty
 abbrev pub jobLong : List ℕ
@@ -231,10 +275,10 @@ jobJ i = set jobB 116 i
 
 abbrev pub resultJ : List ℕ
 resultJ =
-    1 ∷ 0 ∷ 4 ∷ 0 ∷ 3 ∷ 0 ∷ 1 ∷ 0 ∷ 24 ∷ 0 ∷ 0 ∷ 0 ∷ 56 ∷ 0 ∷ 0 ∷ 0 ∷ 0 ∷ 0 ∷ 0 ∷ 0 ∷ 68 ∷ 0 ∷ 0 ∷ 0 ∷  -- version, m, L, unfinished; offsets of answers, log and charge file; total
+    2 ∷ 0 ∷ 4 ∷ 0 ∷ 3 ∷ 0 ∷ 1 ∷ 0 ∷ 24 ∷ 0 ∷ 0 ∷ 0 ∷ 56 ∷ 0 ∷ 0 ∷ 0 ∷ 0 ∷ 0 ∷ 0 ∷ 0 ∷ 68 ∷ 0 ∷ 0 ∷ 0 ∷  -- version, m, L, unfinished; offsets of answers, log and charge file; total
     3 ∷ 0 ∷ 9 ∷ 0 ∷ 90 ∷ 0 ∷ 0 ∷ 0 ∷  -- answer 0
     0 ∷ 0 ∷ 1 ∷ 0 ∷ 0 ∷ 0 ∷ 0 ∷ 0 ∷  -- answer 1
-    5 ∷ 0 ∷ 6 ∷ 0 ∷ 70 ∷ 0 ∷ 0 ∷ 0 ∷  -- answer 2
+    5 ∷ 1 ∷ 6 ∷ 0 ∷ 70 ∷ 0 ∷ 0 ∷ 0 ∷  -- answer 2
     1 ∷ 0 ∷ 2 ∷ 0 ∷ 70 ∷ 0 ∷ 0 ∷ 0 ∷  -- answer 3
     6 ∷ 0 ∷ 3 ∷ 0 ∷ 12 ∷ 0 ∷ 2 ∷ 0 ∷ 18 ∷ 0 ∷ 0 ∷ 0 ∷  -- log
     []

@@ -52,10 +52,10 @@ pub enum Stage {
     Done,
 }
 
-// What a page has of a call: its charge, or nothing.
+// What looking for a call in a page comes to: the page's number, and the call's charge there, or that it is missing.
 pub enum Found {
-    Charge(u32),
-    Missing,
+    Charge(u16, u32),
+    Missing(u16),
 }
 
 // The lowest place at which a row of the refusal table holds, or none.

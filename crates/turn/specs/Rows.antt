@@ -46,27 +46,28 @@ stageNumbers (Split x b n q) = partNumbers x b n q
 stageNumbers Done = numbers 13 0 0 0 0
 
 -- the row with these numbers
-abbrev pub rowWith : Numbers → ℕ → ℕ → ℕ → ℕ → Row
-rowWith k used code charge moment =
+abbrev pub rowWith : Numbers → ℕ → ℕ → ℕ → ℕ → ℕ → Row
+rowWith k used code charge told moment =
     record {
       charge = charge;
       stage = k .stage;
+      code = code;
       page = k .page;
       base = k .base;
       count = k .count;
       next = k .next;
       used = used;
-      code = code;
+      told = told;
       moment = moment;
     }
 
 -- "one fixed value, the same for every job, that stands for an operation not begun"
 abbrev pub blankRow : Row
-blankRow = rowWith (numbers 0 0 0 0 0) 0 0 0 0
+blankRow = rowWith (numbers 0 0 0 0 0) 0 0 0 0 0
 
 -- the row of numbers of an operation's row in the machine
 unfoldable pub rowImage : State-Row → Row
-rowImage r = rowWith (stageNumbers (r .stage)) (r .used) (r .code) (r .charge) (r .moment)
+rowImage r = rowWith (stageNumbers (r .stage)) (r .used) (r .code) (r .charge) (r .page) (r .moment)
 
 -- the stage that a row's numbers give
 unfoldable pub stageIn : Row → Stage
@@ -88,18 +89,19 @@ stageIn r =
 
 -- the row after a turn that leads to a stage; and with an answer
 unfoldable pub moved : Row → Stage → Row
-moved r st = rowWith (stageNumbers st) (r .used + 1) (r .code) (r .charge) (r .moment)
+moved r st = rowWith (stageNumbers st) (r .used + 1) (r .code) (r .charge) (r .told) (r .moment)
 
-unfoldable pub answered : Row → ℕ → ℕ → ℕ → Row
-answered r code charge moment =
+unfoldable pub answered : Row → ℕ → ℕ → ℕ → ℕ → Row
+answered r code charge told moment =
     record {
       charge = charge;
       stage = r .stage;
+      code = code;
       page = r .page;
       base = r .base;
       count = r .count;
       next = r .next;
       used = r .used;
-      code = code;
+      told = told;
       moment = moment;
     }

@@ -2,10 +2,10 @@
 -- machine's turn; here what takes the machine a walk over the directory or the history is one look-up or a few steps.
 use Prim.Native.Nat.{ℕ, suc, _+_, _-_, _*_, _^_}
 use mathlib.Core.List.{List}
-use mathlib.Core.Option.{Option, none, some}
 use lib.Dec.{ltb, leb, eqb}
 use lib.ListN.{getD, length}
-use Rattle.spec.specs.declared.Rec.{Rec}
+use Rattle.spec.specs.declared.Found.{Found}
+use Rattle.spec.specs.declared.Found.the-variants.{Charge, Missing}
 use Rattle.spec.specs.declared.Op.{Op}
 use Rattle.spec.specs.declared.Kind.{Kind}
 use Rattle.spec.specs.declared.Kind.the-variants.{Search, Insert, Delete}
@@ -18,12 +18,12 @@ use Rattle.spec.specs.declared.Stage.the-variants.{NotBegun, ReadPage, Reread, 
 use Rattle.spec.specs.Basics.{if}
 use Rattle.spec.specs.Code.{found, notFound, stored, alreadyThere, deleted, absent, noDepth, noPage}
 use Rattle.spec.specs.Key.{index}
-use Rattle.spec.specs.File.{Page, zeroPage, lookIn}
+use Rattle.spec.specs.File.{Page, zeroPage, lookIn, foundOf}
 use Rattle.spec.specs.Split.{Grown, added, grow, leastShared, splitCount}
-use Rattle.spec.specs.Turn.{recOf, begin, chargeIn, cleared}
+use Rattle.spec.specs.Turn.{recOf, begin, cleared}
 unfoldable pub use Rattle.laws.specs.Turns.GoesBy.{entryBit, lastOne}
 use Rattle.memory.specs.declared.Shape.{Shape}
-use Rattle.memory.specs.Memory.{entryIn, withEntry, lockIn, withLocks, usedIn, withUsed, turnIn, withTurn, pageIn, withPage}
+use Rattle.memory.specs.Memory.{entryIn, withEntry, lockIn, withLocks, usedIn, withUsed, turnIn, withTurn, pageIn, withPage, foundIn}
 use Rattle.turn.specs.declared.Row.{Row}
 use Rattle.turn.specs.Rows.{stageIn, moved, answered}
 
@@ -51,13 +51,13 @@ unfoldable pub foundAt : Shape → Op → ℕ → List ℕ → ℕ → ℕ
 foundAt sh op t w x =
     if (eqb (named sh op w) x) t (turnIn w (home sh op) (pageIn (sh .capacity) w x .depth))
 
-unfoldable pub memLooked : Shape → Op → ℕ → Row → List ℕ → ℕ → Option Rec → Out
-memLooked sh op t r w x none = out (moved r (Reread x t)) w
-memLooked sh op t r w x (some c) = out (answered (moved r Done) found (c .charge) (foundAt sh op t w x)) w
+unfoldable pub memLooked : Shape → Op → ℕ → Row → List ℕ → Found → Out
+memLooked sh op t r w (Missing x) = out (moved r (Reread x t)) w
+memLooked sh op t r w (Charge x v) = out (answered (moved r Done) found v x (foundAt sh op t w x)) w
 
 unfoldable pub memReread : Shape → Op → Row → List ℕ → ℕ → ℕ → Out
 memReread sh op r w x u =
-    if (eqb (named sh op w) x) (out (answered (moved r Done) notFound 0 u) w) (out (moved r (ReadPage (named sh op w))) w)
+    if (eqb (named sh op w) x) (out (answered (moved r Done) notFound 0 x u) w) (out (moved r (ReadPage (named sh op w))) w)
 
 unfoldable pub memLock : Row → List ℕ → ℕ → Out
 memLock r w x = if (eqb (lockIn w x) 0) (out (moved r (Held x Verify)) (withLocks w x 1 1)) (out r w)
@@ -68,7 +68,7 @@ memVerified sh op r w x =
 
 -- turn (d)
 unfoldable pub memRefused : ℕ → Row → List ℕ → ℕ → ℕ → ℕ → Out
-memRefused t r w x code charge = out (answered (moved r (Held x Unlock)) code charge t) w
+memRefused t r w x code charge = out (answered (moved r (Held x Unlock)) code charge x t) w
 
 -- an insert takes n new pages, when u are in use
 unfoldable pub memTaken : Row → List ℕ → ℕ → ℕ → ℕ → Out
@@ -85,20 +85,25 @@ unfoldable pub memPlaced : Shape → Op → ℕ → Row → List ℕ → ℕ →
 memPlaced sh op t r w x p =
     if (ltb (length (p .records)) (sh .capacity)) (out (moved r (Held x WritePage)) w) (memFull sh op t r w x p)
 
-unfoldable pub memDecided : Shape → Op → ℕ → Row → List ℕ → ℕ → Kind → Option Rec → Out
-memDecided sh op t r w x Search c = out (moved r (Held x Unlock)) w
-memDecided sh op t r w x Insert none = memPlaced sh op t r w x (pageIn (sh .capacity) w x)
-memDecided sh op t r w x Insert (some c) = memRefused t r w x alreadyThere (c .charge)
-memDecided sh op t r w x Delete none = memRefused t r w x absent 0
-memDecided sh op t r w x Delete (some c) = out (moved r (Held x WritePage)) w
+unfoldable pub memDecided : Shape → Op → ℕ → Row → List ℕ → Kind → Found → Out
+memDecided sh op t r w Search (Missing x) = out (moved r (Held x Unlock)) w
+memDecided sh op t r w Search (Charge x v) = out (moved r (Held x Unlock)) w
+memDecided sh op t r w Insert (Missing x) = memPlaced sh op t r w x (pageIn (sh .capacity) w x)
+memDecided sh op t r w Insert (Charge x v) = memRefused t r w x alreadyThere v
+memDecided sh op t r w Delete (Missing x) = memRefused t r w x absent 0
+memDecided sh op t r w Delete (Charge x v) = out (moved r (Held x WritePage)) w
+
+-- the row of a delete that writes its page, by what it finds there
+unfoldable pub memStruck : ℕ → Row → Found → Row
+memStruck t r (Missing x) = answered (moved r (Held x Unlock)) deleted 0 x t
+memStruck t r (Charge x v) = answered (moved r (Held x Unlock)) deleted v x t
 
 unfoldable pub memWritten : Shape → Op → ℕ → Row → List ℕ → ℕ → Kind → Page → Out
 memWritten sh op t r w x Search p = out (moved r (Held x Unlock)) w
 memWritten sh op t r w x Insert p =
-    out (answered (moved r (Held x Unlock)) stored (op .charge) t) (withPage (sh .capacity) w x (added p (recOf op)))
+    out (answered (moved r (Held x Unlock)) stored (op .charge) x t) (withPage (sh .capacity) w x (added p (recOf op)))
 memWritten sh op t r w x Delete p =
-    out (answered (moved r (Held x Unlock)) deleted (chargeIn (lookIn (p .records) (op .call))) t)
-    (withPage (sh .capacity) w x (cleared p (op .call)))
+    out (memStruck t r (foundOf x (lookIn (p .records) (op .call)))) (withPage (sh .capacity) w x (cleared p (op .call)))
 
 -- Which new page of the splits of page x an entry e goes to, counted from 1, or 0: the last of n splits that puts it on the side of bit 1
 unfoldable pub goes : Shape → Op → List ℕ → ℕ → ℕ → ℕ → ℕ
@@ -113,13 +118,13 @@ unfoldable pub memOld : Shape → Op → ℕ → Row → List ℕ → ℕ → Ou
 memOld sh op t r w x =
     let n : ℕ = splitCount (pageIn (sh .capacity) w x) (op .call) in
     out
-    (if (eqb (goes sh op w x n (home sh op)) 0) (answered (moved r (Held x Unlock)) stored (op .charge) t) (moved r (Held x Unlock)))
+    (if (eqb (goes sh op w x n (home sh op)) 0) (answered (moved r (Held x Unlock)) stored (op .charge) x t) (moved r (Held x Unlock)))
     (withPage (sh .capacity) w x (plan sh op w x .old))
 
 unfoldable pub memHeld : Shape → Op → ℕ → Row → List ℕ → ℕ → Task → Out
 memHeld sh op t r w x Verify = memVerified sh op r w x
 memHeld sh op t r w x (Release y) = out (moved r (Lock y)) (withLocks w x 1 0)
-memHeld sh op t r w x Decide = memDecided sh op t r w x (op .kind) (lookIn (pageIn (sh .capacity) w x .records) (op .call))
+memHeld sh op t r w x Decide = memDecided sh op t r w (op .kind) (foundIn (sh .capacity) w x (op .call))
 memHeld sh op t r w x WritePage = memWritten sh op t r w x (op .kind) (pageIn (sh .capacity) w x)
 memHeld sh op t r w x WriteOld = memOld sh op t r w x
 memHeld sh op t r w x Unlock = out (moved r Done) (withLocks w x 1 0)
@@ -139,10 +144,11 @@ memNew sh op r w x b n i =
 
 unfoldable pub memEntry : Shape → Op → ℕ → Row → List ℕ → ℕ → ℕ → ℕ → ℕ → Out
 memEntry sh op t r w x b n j =
+    let y : ℕ = b + goes sh op w x n j in
     out
-    (if (eqb j (home sh op)) (answered (moved r (Split x b n (afterEntry sh w x j))) stored (op .charge) t)
+    (if (eqb j (home sh op)) (answered (moved r (Split x b n (afterEntry sh w x j))) stored (op .charge) y t)
     (moved r (Split x b n (afterEntry sh w x j))))
-    (withEntry (withTurn w j (pageIn (sh .capacity) w x .depth) t) j (b + goes sh op w x n j))
+    (withEntry (withTurn w j (pageIn (sh .capacity) w x .depth) t) j y)
 
 unfoldable pub memSplit : Shape → Op → ℕ → Row → List ℕ → ℕ → ℕ → ℕ → Part → Out
 memSplit sh op t r w x b n (WriteNew i) = memNew sh op r w x b n i
@@ -152,7 +158,7 @@ memSplit sh op t r w x b n UnlockNew = out (moved r (Held x WriteOld)) (withLock
 -- one turn of operation op at a stage, on turn t
 unfoldable pub memTurn : Shape → Op → ℕ → Row → List ℕ → Stage → Out
 memTurn sh op t r w NotBegun = out (moved r (begin (op .kind) (named sh op w))) w
-memTurn sh op t r w (ReadPage x) = memLooked sh op t r w x (lookIn (pageIn (sh .capacity) w x .records) (op .call))
+memTurn sh op t r w (ReadPage x) = memLooked sh op t r w (foundIn (sh .capacity) w x (op .call))
 memTurn sh op t r w (Reread x u) = memReread sh op r w x u
 memTurn sh op t r w (Lock x) = memLock r w x
 memTurn sh op t r w (Held x k) = memHeld sh op t r w x k

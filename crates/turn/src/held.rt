@@ -18,12 +18,11 @@ ghost use lib.ListN.{length};
 ghost use Rattle.spec.specs.declared.Stage.the-variants.{Held};
 ghost use Rattle.spec.specs.declared.Task.the-variants.{Unlock};
 ghost use Rattle.spec.specs.Check.{workSize};
-ghost use Rattle.spec.specs.File.{lookIn};
 ghost use Rattle.spec.specs.Split.{splitCount};
-ghost use Rattle.spec.specs.Turn.{recOf, chargeIn};
-ghost use Rattle.memory.specs.Memory.{withLocks, withUsed, pageIn};
+ghost use Rattle.spec.specs.Turn.{recOf};
+ghost use Rattle.memory.specs.Memory.{withLocks, withUsed, pageIn, foundIn};
 ghost use Rattle.turn.specs.Rows.{moved, answered};
-ghost use Rattle.turn.specs.Steps.{out, home, goes, memLock, memVerified, memTaken, memFull, memPlaced, memDecided, memWritten, memOld, memHeld};
+ghost use Rattle.turn.specs.Steps.{out, home, goes, memLock, memVerified, memTaken, memFull, memPlaced, memDecided, memStruck, memWritten, memOld, memHeld};
 ghost use Rattle.turn.specs.Safe.{Ready, Readable, Planned, Writable, SafeHeld};
 
 // The record that an insert stores.
@@ -33,18 +32,6 @@ pub fn rec_of(op: Op) -> Rec
     Rec {
         call: op.call,
         charge: op.charge,
-    }
-}
-
-// The charge that page x has of the call.
-fn charge_in(shape: Shape, op: Op, x: u16, work: &[u8]) -> u32
-    requires { ⌜ Ready shape (now work) × Readable shape (now work) x ⌝ }
-    ensures { λ r. ⌜ r ≡ chargeIn (lookIn (pageIn (shape .capacity) (now (work .entry)) x .records) (op .call)) ⌝ }
-{
-    let found = memory::find_in(work, shape.capacity, x, op.call);
-    match found {
-        Found::Charge(v) => v,
-        Found::Missing => 0,
     }
 }
 
@@ -102,13 +89,24 @@ impl Row {
         }
     }
 
-    // The operation has its answer, and the next turn unlocks its page.
-    fn settled(self, x: u16, code: u16, charge: u32, moment: u16) -> Row
+    // The operation has its answer, told with the page that it holds, and the next turn unlocks that page.
+    fn settled(self, x: u16, code: u8, charge: u32, moment: u16) -> Row
         requires { ⌜ self .used < 65535 ⌝ }
-        ensures { λ r. ⌜ r ≡ answered (moved self (Held x Unlock)) code charge moment ⌝ }
+        ensures { λ r. ⌜ r ≡ answered (moved self (Held x Unlock)) code charge x moment ⌝ }
     {
         self.moved(Stage::Held(x, Task::Unlock))
-            .answered(code, charge, moment)
+            .answered(code, charge, x, moment)
+    }
+
+    // The answer of a delete, by what it found in its page.
+    fn struck(self, t: u16, found: Found) -> Row
+        requires { ⌜ self .used < 65535 ⌝ }
+        ensures { λ r. ⌜ r ≡ memStruck t self found ⌝ }
+    {
+        match found {
+            Found::Charge(x, v) => self.settled(x, codes::DELETED, v, t),
+            Found::Missing(x) => self.settled(x, codes::DELETED, 0, t),
+        }
     }
 
     // "turn (d) also takes and locks pages U+1 to U+n in the order of the splits, and from then on U is n more"
@@ -152,19 +150,19 @@ impl Row {
     // "(d) read the page and decide". (No search comes here, nor to `write_page`.)
     fn decide(self, shape: Shape, op: Op, t: u16, x: u16, work: &mut [u8]) -> Row
         requires { ⌜ Ready shape (now work) × (self .used < 65535) × Readable shape (now work) x ⌝ }
-        ensures { λ r. ⌜ out r (now (work .exit)) ≡ memDecided shape op t self (now (work .entry)) x (op .kind) (lookIn (pageIn (shape .capacity) (now (work .entry)) x .records) (op .call)) ⌝ }
+        ensures { λ r. ⌜ out r (now (work .exit)) ≡ memDecided shape op t self (now (work .entry)) (op .kind) (foundIn (shape .capacity) (now (work .entry)) x (op .call)) ⌝ }
     {
         let found = memory::find_in(work, shape.capacity, x, op.call);
         let k = op.kind;
         match k {
             Kind::Search => self.moved(Stage::Held(x, Task::Unlock)),
             Kind::Insert => match found {
-                Found::Charge(v) => self.settled(x, codes::ALREADY_THERE, v, t),
-                Found::Missing => self.place(shape, op, t, x, work),
+                Found::Charge(y, v) => self.settled(y, codes::ALREADY_THERE, v, t),
+                Found::Missing(y) => self.place(shape, op, t, y, work),
             },
             Kind::Delete => match found {
-                Found::Charge(_) => self.moved(Stage::Held(x, Task::WritePage)),
-                Found::Missing => self.settled(x, codes::ABSENT, 0, t),
+                Found::Charge(y, _) => self.moved(Stage::Held(y, Task::WritePage)),
+                Found::Missing(y) => self.settled(y, codes::ABSENT, 0, t),
             },
         }
     }
@@ -182,9 +180,9 @@ impl Row {
                 self.settled(x, codes::STORED, op.charge, t)
             }
             Kind::Delete => {
-                let charge = charge_in(shape, op, x, work);
+                let found = memory::find_in(work, shape.capacity, x, op.call);
                 memory::remove_from(work, shape.capacity, x, op.call);
-                self.settled(x, codes::DELETED, charge, t)
+                self.struck(t, found)
             }
         }
     }

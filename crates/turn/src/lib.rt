@@ -14,17 +14,19 @@ ghost use Rattle.turn.specs.Rows.{blankRow};
 ghost use Rattle.turn.specs.Steps.{out, memStep};
 ghost use Rattle.turn.specs.Safe.{Safe};
 
-// An operation's row: its stage in numbers, its turns used, and its answer. Each number is below 16,385 but the charge, which has 32 bits.
+// An operation's row: its stage in numbers, its turns used, and its answer, with the page that is told. Each number is below 16,385 but the charge,
+// which has 32 bits; those of stages and codes are below 14.
 #[repr(C)]
 pub struct Row {
     pub charge: u32,
-    pub stage: u16,
+    pub stage: u8,
+    pub code: u8,
     pub page: u16,
     pub base: u16,
     pub count: u16,
     pub next: u16,
     pub used: u16,
-    pub code: u16,
+    pub told: u16,
     pub moment: u16,
 }
 
@@ -36,12 +38,13 @@ impl Row {
         Row {
             charge: 0,
             stage: 0,
+            code: 0,
             page: 0,
             base: 0,
             count: 0,
             next: 0,
             used: 0,
-            code: 0,
+            told: 0,
             moment: 0,
         }
     }

@@ -34,26 +34,27 @@ pub fn stage_of(row: Row) -> Stage
 
 impl Row {
     // One more turn is used, and these are the numbers of the next stage.
-    fn put(self, stage: u16, page: u16, base: u16, count: u16, next: u16) -> Row
+    fn put(self, stage: u8, page: u16, base: u16, count: u16, next: u16) -> Row
         requires { ⌜ self .used < 65535 ⌝ }
-        ensures { λ r. ⌜ r ≡ rowWith (numbers stage page base count next) (self .used + 1) (self .code) (self .charge) (self .moment) ⌝ }
+        ensures { λ r. ⌜ r ≡ rowWith (numbers stage page base count next) (self .used + 1) (self .code) (self .charge) (self .told) (self .moment) ⌝ }
     {
         Row {
             charge: self.charge,
             stage: stage,
+            code: self.code,
             page: page,
             base: base,
             count: count,
             next: next,
             used: self.used + 1,
-            code: self.code,
+            told: self.told,
             moment: self.moment,
         }
     }
 
     fn put_task(self, x: u16, t: Task) -> Row
         requires { ⌜ self .used < 65535 ⌝ }
-        ensures { λ r. ⌜ r ≡ rowWith (taskNumbers x t) (self .used + 1) (self .code) (self .charge) (self .moment) ⌝ }
+        ensures { λ r. ⌜ r ≡ rowWith (taskNumbers x t) (self .used + 1) (self .code) (self .charge) (self .told) (self .moment) ⌝ }
     {
         match t {
             Task::Verify => self.put(4, x, 0, 0, 0),
@@ -67,7 +68,7 @@ impl Row {
 
     fn put_part(self, x: u16, b: u16, n: u16, q: Part) -> Row
         requires { ⌜ self .used < 65535 ⌝ }
-        ensures { λ r. ⌜ r ≡ rowWith (partNumbers x b n q) (self .used + 1) (self .code) (self .charge) (self .moment) ⌝ }
+        ensures { λ r. ⌜ r ≡ rowWith (partNumbers x b n q) (self .used + 1) (self .code) (self .charge) (self .told) (self .moment) ⌝ }
     {
         match q {
             Part::WriteNew(i) => self.put(10, x, b, n, i),
@@ -92,19 +93,20 @@ impl Row {
         }
     }
 
-    // The operation's answer. "The code is set when the operation's moment is known"
-    pub(crate) fn answered(self, code: u16, charge: u32, moment: u16) -> Row
-        ensures { λ r. ⌜ r ≡ answered self code charge moment ⌝ }
+    // The operation's answer, with its page. "The code is set when the operation's moment is known"
+    pub(crate) fn answered(self, code: u8, charge: u32, told: u16, moment: u16) -> Row
+        ensures { λ r. ⌜ r ≡ answered self code charge told moment ⌝ }
     {
         Row {
             charge: charge,
             stage: self.stage,
+            code: code,
             page: self.page,
             base: self.base,
             count: self.count,
             next: self.next,
             used: self.used,
-            code: code,
+            told: told,
             moment: moment,
         }
     }

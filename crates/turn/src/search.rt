@@ -9,9 +9,8 @@ use spec::Op;
 use spec::Stage;
 ghost use mathlib.Core.Path.{_≡_};
 ghost use Prim.Native.Nat.{_≤_, _<_};
-ghost use Rattle.spec.specs.File.{lookIn};
 ghost use Rattle.spec.specs.Turn.{begin};
-ghost use Rattle.memory.specs.Memory.{pageIn};
+ghost use Rattle.memory.specs.Memory.{foundIn};
 ghost use Rattle.turn.specs.Rows.{moved};
 ghost use Rattle.turn.specs.Steps.{out, named, foundAt, memLooked, memReread};
 ghost use Rattle.turn.specs.Safe.{Ready, Reading, Kept};
@@ -54,15 +53,15 @@ impl Row {
     // "read that page (found: finished)"
     pub(crate) fn read_page(self, shape: Shape, op: Op, t: u16, x: u16, work: &[u8]) -> Row
         requires { ⌜ Ready shape (now work) × (self .used < 65535) × Reading shape op (now work) x ⌝ }
-        ensures { λ r. ⌜ out r (now (work .entry)) ≡ memLooked shape op t self (now (work .entry)) x (lookIn (pageIn (shape .capacity) (now (work .entry)) x .records) (op .call)) ⌝ }
+        ensures { λ r. ⌜ out r (now (work .entry)) ≡ memLooked shape op t self (now (work .entry)) (foundIn (shape .capacity) (now (work .entry)) x (op .call)) ⌝ }
     {
         let found = memory::find_in(work, shape.capacity, x, op.call);
         match found {
-            Found::Charge(v) => {
-                let at = found_at(shape, op, t, x, work);
-                self.moved(Stage::Done).answered(codes::FOUND, v, at)
+            Found::Charge(y, v) => {
+                let at = found_at(shape, op, t, y, work);
+                self.moved(Stage::Done).answered(codes::FOUND, v, y, at)
             }
-            Found::Missing => self.moved(Stage::Reread(x, t)),
+            Found::Missing(y) => self.moved(Stage::Reread(y, t)),
         }
     }
 
@@ -73,7 +72,7 @@ impl Row {
     {
         let y = named(shape, op, work);
         if y == x {
-            self.moved(Stage::Done).answered(codes::NOT_FOUND, 0, u)
+            self.moved(Stage::Done).answered(codes::NOT_FOUND, 0, x, u)
         } else {
             self.moved(Stage::ReadPage(y))
         }

@@ -51,15 +51,17 @@ fn after_entry(shape: Shape, x: u16, j: u16, work: &[u8]) -> Part
     }
 }
 
-// Entry j goes from page x to its new page, and the turn of the change is noted.
-fn redirect(shape: Shape, op: Op, t: u16, x: u16, b: u16, n: u16, j: u16, work: &mut [u8])
+// Entry j goes from page x to its new page, whose number is returned, and the turn of the change is noted.
+fn redirect(shape: Shape, op: Op, t: u16, x: u16, b: u16, n: u16, j: u16, work: &mut [u8]) -> u16
     requires { ⌜ Ready shape (now work) × Splitting shape op (now work) x b n × (j < 256) ⌝ }
-    ensures { λ _. ⌜ now (work .exit) ≡ withEntry (withTurn (now (work .entry)) j (pageIn (shape .capacity) (now (work .entry)) x .depth) t) j (b + goes shape op (now (work .entry)) x n j) ⌝ }
+    ensures { λ r. ⌜ (r ≡ b + goes shape op (now (work .entry)) x n j) × (now (work .exit) ≡ withEntry (withTurn (now (work .entry)) j (pageIn (shape .capacity) (now (work .entry)) x .depth) t) j r) ⌝ }
 {
     let d = memory::page_depth(work, shape.capacity, x);
     let k = entries::last_one(shape.depth, op.call, j as usize, n as usize, d);
     memory::set_change_turn(work, j as usize, d, t);
-    memory::set_entry(work, j as usize, b + k as u16);
+    let y = b + k as u16;
+    memory::set_entry(work, j as usize, y);
+    y
 }
 
 impl Row {
@@ -73,7 +75,7 @@ impl Row {
         self.moved(Stage::Split(x, b, n, next))
     }
 
-    // "one for each changed entry by rising index". "stored, .. else the writing of the call's own entry"
+    // "one for each changed entry by rising index". "stored, .. else the writing of the call's own entry", and the page is the one that it then names.
     fn write_entry(
         self,
         shape: Shape,
@@ -89,10 +91,10 @@ impl Row {
         ensures { λ r. ⌜ out r (now (work .exit)) ≡ memEntry shape op t self (now (work .entry)) x b n j ⌝ }
     {
         let next = after_entry(shape, x, j, work);
-        redirect(shape, op, t, x, b, n, j, work);
+        let y = redirect(shape, op, t, x, b, n, j, work);
         let row = self.moved(Stage::Split(x, b, n, next));
         if j as usize == entries::home(shape, op) {
-            row.answered(codes::STORED, op.charge, t)
+            row.answered(codes::STORED, op.charge, y, t)
         } else {
             row
         }

@@ -1,17 +1,20 @@
 -- A result that is written comes back when it is read, also with other bytes behind it: readResult (encodeResult r ++ post) is r.
 use Prim.Native.Nat.{ℕ, _+_, _-_, _^_, _<_, _≤_}
-use mathlib.Core.Path.{_≡_, refl, ap, _∙_}
+use mathlib.Core.Path.{_≡_, refl, sym, ap, _∙_}
+use mathlib.Core.Logic.{by-cases}
 use mathlib.Core.List.{List, [], _++_, map, append-assoc}
 use mathlib.Core.Option.{Option, none, some}
 use native.Mathlib.Omega.{arith}
+use native.Mathlib.Decide.{ℕ-discrete}
 use lib.ListN.{length, take, drop, length-append}
 use lib.Seq.{drop-at, take-at}
 use borrow.Author.Tests.{eq-eqb, ne-eqb}
 use Rattle.spec.specs.Basics.{if, each, Each}
 use Rattle.spec.specs.Bytes.{byte, word, long, two, four, parts}
+use Rattle.spec.specs.Code.{notYet}
 use Rattle.spec.specs.Job.{maxOps}
 use Rattle.spec.specs.Decode.{headerOf}
-use Rattle.spec.specs.Result.{Told, Line, Result, resultVersionAt, answerCountAt, lineCountAt, unendedAt, answersOffsetAt, logOffsetAt, fileOffsetAt, resultTotalAt, answersOffset, answerBytes, lineBytes, logOffset, fileOffset, offsetField, fileBytes, resultHeader, encodeResult, answerOf, lineOf, answersIn, logIn, filePart, fileIn, readResult}
+use Rattle.spec.specs.Result.{Told, Line, Result, resultVersionAt, answerCountAt, lineCountAt, unendedAt, answersOffsetAt, logOffsetAt, fileOffsetAt, resultTotalAt, answersOffset, pageByte, answerBytes, lineBytes, logOffset, fileOffset, offsetField, fileBytes, resultHeader, encodeResult, pageTold, answerOf, lineOf, answersIn, logIn, filePart, fileIn, readResult}
 use Rattle.spec.specs.Check.{jobFault}
 use Rattle.laws.specs.Tools.{each-imp}
 use Rattle.laws.specs.Codec.Tools.{every}
@@ -25,6 +28,8 @@ use Rattle.laws.specs.Codec.Sizes.{length-answer, length-line, length-re
 -- the numbers of a result fit their fields, its total is its length, and its charge file is accepted as a job
 pub record ToldFits (a : Told) : Type 0 where
   pub code : a .code < 2 ^ 8
+  pub untold : a .code ≡ notYet → a .page ≡ 0
+  pub page : (a .code ≡ notYet → ⊥) → (0 < a .page) × (a .page ≤ 2 ^ 8)
   pub used : a .used < 2 ^ 16
   pub charge : a .charge < 2 ^ 32
 
@@ -44,10 +49,22 @@ pub record ResultFits (m : ℕ) (r : Result) : Type 0 where
   pub file : (f : List ℕ) → r .file ≡ some f → jobFault f ≡ none
 
 -- one by one
+page-back : (a : Told) → ToldFits a → pageTold (a .code) (pageByte a) ≡ a .page
+unfolding pageTold pageByte if
+page-back a h =
+    by-cases (ℕ-discrete (a .code) notYet) (λ e. rw (eq-eqb (a .code) notYet e) (sym (h .untold e)))
+    (λ n. rw (ne-eqb (a .code) notYet n) (omega (arith, h .page n)))
+
 answer-back : (a : Told) → ToldFits a → answerOf (answerBytes a) ≡ a
 unfolding answerOf answerBytes long word byte four two
 answer-back a h =
-    λ i. record { code = a .code; charge = long-four (a .charge) [] (h .charge) i; used = word-two (a .used) [] (h .used) i }
+    λ i.
+    record {
+      code = a .code;
+      page = page-back a h i;
+      used = word-two (a .used) [] (h .used) i;
+      charge = long-four (a .charge) [] (h .charge) i;
+    }
 
 line-back : (l : Line) → LineFits l → lineOf (lineBytes l) ≡ l
 unfolding lineOf lineBytes word byte two

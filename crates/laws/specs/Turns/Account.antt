@@ -35,14 +35,14 @@ pub record Account (H : ℕ → ℕ → Option Rec) (ops : List Op) (s : State) 
 
 -- what the turn's own answer says
 own-change
-    : {s : State} {st : Stage} {op : Op} {a b : Option Rec} {z : Answer} (r : Row)
-    → Own s st op a b z
+    : {s : State} {st : Stage} {op : Op} {a b : Option Rec} {y : ℕ} {z : Answer} (r : Row)
+    → Own s st op a b y z
     → (b ≡ a) ⊎ (Changes (codeAfter z r) × (momentAfter z r ≡ s .now))
 unfolding codeAfter momentAfter
 own-change r (quiet e) = inl e
 own-change r (sees x w h i j e) = inl e
 own-change r (seesNone x t h i j e) = inl e
-own-change r (says y) = ⊎-elim (λ e. inl e) (λ e. inr (e .0, refl)) (says-change y)
+own-change r (says n u w y) = ⊎-elim (λ e. inl e) (λ e. inr (e .0, refl)) (says-change y)
 
 module _ (H : ℕ → ℕ → Option Rec) (ops : List Op) (s : State) (i : ℕ)
     (before : (k : ℕ) → H (s .now) k ≡ lookup (s .file) k)

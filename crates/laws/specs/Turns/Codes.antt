@@ -11,6 +11,8 @@ use lib.ListN.{length, getD, length-set, length-replicate, getD-replicate}
 use lib.Seq.{getD-set-other}
 use borrow.Author.Tests.{eqb-true, eqb-false}
 use Rattle.spec.specs.declared.Rec.{Rec}
+use Rattle.spec.specs.declared.Found.{Found}
+use Rattle.spec.specs.declared.Found.the-variants.{Charge, Missing}
 use Rattle.spec.specs.declared.Op.{Op}
 use Rattle.spec.specs.declared.Kind.{Kind}
 use Rattle.spec.specs.declared.Kind.the-variants.{Search, Insert, Delete}
@@ -20,11 +22,11 @@ use Rattle.spec.specs.declared.Part.{Part}
 use Rattle.spec.specs.declared.Part.the-variants.{WriteNew, WriteEntry, UnlockNew}
 use Rattle.spec.specs.declared.Stage.{Stage}
 use Rattle.spec.specs.declared.Stage.the-variants.{NotBegun, ReadPage, Reread, Lock, Held, Split, Done}
-use Rattle.spec.specs.File.{Page, File, zeroPage, pageAt, entryAt}
+use Rattle.spec.specs.File.{Page, File, zeroPage, pageAt, entryAt, foundOf, lookInto}
 use Rattle.spec.specs.Job.{noOp}
-use Rattle.spec.specs.Code.{notYet, stored}
+use Rattle.spec.specs.Code.{notYet, stored, deleted}
 use Rattle.spec.specs.State.{Row, State, Answer, same, Move, blank, gone, go, goPage, goEntry}
-use Rattle.spec.specs.Turn.{homeOf, planOf, goesTo, begin, looked, reread, placed, decided, written, verified, oldWritten, heldTurn, entriesFrom, splitTurn, turn}
+use Rattle.spec.specs.Turn.{homeOf, planOf, goesTo, begin, looked, reread, placed, decided, struck, written, verified, oldWritten, heldTurn, entriesFrom, splitTurn, turn}
 use Rattle.spec.specs.Run.{tableAfter, fileAfter, codeAfter, momentAfter, rowAfter, rowOf, stageOf, tick, act, step, start}
 use Rattle.spec.specs.Proper.{Fit}
 use Rattle.laws.specs.Tools.{if-case}
@@ -81,8 +83,8 @@ module _ (s : State) (op : Op) (r : Row) where
   abbrev T : Move → Type 0
   T m = Tells s op r m
 
-  looked-tells : (x : ℕ) (o : Option Rec) → r .code ≡ notYet → T (looked s op x o)
-  unfolding looked codeAfter
+  looked-tells : (x : ℕ) (o : Option Rec) → r .code ≡ notYet → T (looked s op (foundOf x o))
+  unfolding looked foundOf codeAfter
   looked-tells x none h = record { once = inr h; code = h }
   looked-tells x (some w) h = record { once = inr h; code = λ z. omega arith }
 
@@ -101,19 +103,25 @@ module _ (s : State) (op : Op) (r : Row) where
       (λ b.
       if-case T (λ c. record { once = inr h; code = (n, λ z. omega arith) }) (λ c. record { once = inr h; code = (n, h) })))
 
-  decided-tells : (x : ℕ) (k : Kind) (o : Option Rec) → op .kind ≡ k → NoSearch op → r .code ≡ notYet → T (decided s op x k o)
-  unfolding decided codeAfter CodeTask
+  decided-tells : (x : ℕ) (k : Kind) (o : Option Rec) → op .kind ≡ k → NoSearch op → r .code ≡ notYet → T (decided s op k (foundOf x o))
+  unfolding decided foundOf codeAfter CodeTask
   decided-tells x Search o e n h = absurd (n e)
   decided-tells x Insert none e n h = placed-tells x _ n h
   decided-tells x Insert (some w) e n h = record { once = inr h; code = (n, λ z. omega arith) }
   decided-tells x Delete none e n h = record { once = inr h; code = (n, λ z. omega arith) }
   decided-tells x Delete (some w) e n h = record { once = inr h; code = (n, h) }
 
+  struck-code : (t : ℕ) (o : Found) → codeAfter (struck t o) r ≡ deleted
+  unfolding struck codeAfter
+  struck-code t (Missing x) = refl
+  struck-code t (Charge x v) = refl
+
   written-tells : (x : ℕ) (k : Kind) (q : Page) → op .kind ≡ k → NoSearch op → r .code ≡ notYet → T (written s op x k q)
   unfolding written codeAfter CodeTask
   written-tells x Search q e n h = absurd (n e)
   written-tells x Insert q e n h = record { once = inr h; code = (n, λ z. omega arith) }
-  written-tells x Delete q e n h = record { once = inr h; code = (n, λ z. omega arith) }
+  written-tells x Delete q e n h =
+      record { once = inr h; code = (n, λ z. omega (arith, struck-code (s .now) (lookInto (s .file) x (op .call)))) }
 
   old-tells : (x : ℕ) → NoSearch op → Splits (s .file) op (r .code) x → T (oldWritten s op x)
   unfolding oldWritten codeAfter CodeTask

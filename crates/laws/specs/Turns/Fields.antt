@@ -22,13 +22,12 @@ use Rattle.spec.specs.Job.{Job, noOp, maxDepth, maxPages, maxTurns}
 use Rattle.spec.specs.Code.{notYet}
 use Rattle.spec.specs.State.{Row, State, Answer}
 use Rattle.spec.specs.Turn.{turn}
-use Rattle.spec.specs.Run.{codeAfter, chargeAfter, momentAfter, rowOf, stageOf, step, start, run}
+use Rattle.spec.specs.Run.{codeAfter, chargeAfter, pageAfter, momentAfter, rowOf, stageOf, step, start, run}
 use Rattle.spec.specs.Proper.{Fit, PageOk, FileOk}
 use Rattle.spec.specs.Claims.{stateAt}
 use Rattle.laws.specs.Turns.Rows.{row-after, step-case, first-row}
 use Rattle.laws.specs.Turns.Good.{Fine, Good}
 use Rattle.laws.specs.Turns.Work.{Work}
-use Rattle.laws.specs.Turns.Says.{Says, isFound, isNone, isStored, isThere, isDeleted, isAbsent, isNoDepth, isNoPage}
 use Rattle.laws.specs.Turns.Does.{Own, quiet, sees, seesNone, says, Coherent}
 use Rattle.laws.specs.Turns.Coherent.{i-does}
 use Rattle.laws.specs.Turns.Reads.{Reads}
@@ -115,36 +114,27 @@ pub used-at : (j : Job) (i t : ℕ) → rowOf (stateAt j t) i .used ≤ t
 unfolding cut
 used-at j i t = rw (← cut-run j t) (omega (arith, used-le (cut j t) i, length-take t (j .turns)))
 
--- a row without an answer has charge 0 and moment 0
-record Unanswered (r : Row) : Type 0 where
-  charge : r .charge ≡ 0
-  moment : r .moment ≡ 0
+-- a row without an answer has charge 0, page 0 and moment 0
+pub record Unanswered (r : Row) : Type 0 where
+  pub charge : r .charge ≡ 0
+  pub page : r .page ≡ 0
+  pub moment : r .moment ≡ 0
 
 abbrev Blanks : State → Type 0
 Blanks s = (i : ℕ) → rowOf s i .code ≡ notYet → Unanswered (rowOf s i)
 
 -- a turn that answers sets a code
-says-code : {op : Op} {a b : Option Rec} {k c : ℕ} → Says op a b k c → k ≡ notYet → ⊥
-says-code (isFound r i h e) z = omega arith
-says-code (isNone i h e) z = omega arith
-says-code (isStored i h e) z = omega arith
-says-code (isThere r i h e) z = omega arith
-says-code (isDeleted r i h e) z = omega arith
-says-code (isAbsent i h e) z = omega arith
-says-code (isNoDepth i h e) z = omega arith
-says-code (isNoPage i h e) z = omega arith
-
 own-blank
-    : {s : State} {st : Stage} {op : Op} {a b : Option Rec} {z : Answer} (r : Row)
-    → Own s st op a b z
+    : {s : State} {st : Stage} {op : Op} {a b : Option Rec} {y : ℕ} {z : Answer} (r : Row)
+    → Own s st op a b y z
     → codeAfter z r ≡ notYet
     → (r .code ≡ notYet → Unanswered r)
-    → (chargeAfter z r ≡ 0) × (momentAfter z r ≡ 0)
-unfolding codeAfter chargeAfter momentAfter
-own-blank r (quiet e) h u = (u h .charge, u h .moment)
+    → (chargeAfter z r ≡ 0) × (pageAfter z r ≡ 0) × (momentAfter z r ≡ 0)
+unfolding codeAfter chargeAfter pageAfter momentAfter
+own-blank r (quiet e) h u = (u h .charge, u h .page, u h .moment)
 own-blank r (sees x w k i j e) h u = absurd (omega arith)
 own-blank r (seesNone x t k i j e) h u = absurd (omega arith)
-own-blank r (says y) h u = absurd (says-code y h)
+own-blank r (says n v w y) h u = absurd (omega arith)
 
 step-blanks : (ops : List Op) (s : State) (i : ℕ) → Good ops s → Coherent ops s → Blanks s → Blanks (step ops s i)
 unfolding rowOf
@@ -152,13 +142,14 @@ step-blanks ops s i good coherent h =
     step-case Blanks ops s i h
     (λ lt e.
     row-after s i (turn s (getD ops i noOp) (stageOf s i)) lt (λ j r. r .code ≡ notYet → Unanswered r)
-    (λ z. let w = own-blank (rowOf s i) (i-does ops s i good coherent .own) z (h i) in record { charge = w .0; moment = w .1 })
+    (λ z. let w = own-blank (rowOf s i) (i-does ops s i good coherent .own) z (h i) in record { charge = w .0; page = w .1; moment = w .2 })
     (λ j n. h j))
 
 start-blanks : (f : File) (m : ℕ) → Blanks (start f m)
 unfolding start rowOf
 start-blanks f m i =
-    first-row (λ r. r .code ≡ notYet → Unanswered r) (λ z. record { charge = refl; moment = refl }) (λ z. record { charge = refl; moment = refl }) m i
+    first-row (λ r. r .code ≡ notYet → Unanswered r) (λ z. record { charge = refl; page = refl; moment = refl })
+    (λ z. record { charge = refl; page = refl; moment = refl }) m i
 
 blanks : (j : Job) → FileOk (j .file) → (t : ℕ) → t ≤ length (j .turns) → Blanks (stateAt j t)
 blanks j ok zero l = rw (stateAt-zero j) (start-blanks _ _)
@@ -171,8 +162,8 @@ module _ (j : Job) (ok : FileOk (j .file)) (i t : ℕ) (l : t ≤ length (j .tur
   abbrev row : Row
   row = rowOf (stateAt j t) i
 
-  pub unanswered : row .code ≡ notYet → (row .charge ≡ 0) × (row .moment ≡ 0)
-  unanswered z = let u = blanks j ok t l i z in (u .charge, u .moment)
+  pub unanswered : row .code ≡ notYet → Unanswered row
+  unanswered z = blanks j ok t l i z
 
   pub answered-moment : (row .code ≡ notYet → ⊥) → row .moment < t
   answered-moment n = omega (arith, whole j ok t l .past .right i n .1, stateAt-now j t l)
@@ -180,4 +171,4 @@ module _ (j : Job) (ok : FileOk (j .file)) (i t : ℕ) (l : t ≤ length (j .tur
   -- of an accepted job's turns
   pub moment-at : length (j .turns) ≤ maxTurns → row .moment < maxTurns
   moment-at h =
-      by-cases (ℕ-discrete (row .code) notYet) (λ z. omega (arith, unanswered z .1)) (λ n. let z = answered-moment n in omega arith)
+      by-cases (ℕ-discrete (row .code) notYet) (λ z. omega (arith, unanswered z .moment)) (λ n. let z = answered-moment n in omega arith)

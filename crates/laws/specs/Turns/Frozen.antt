@@ -19,7 +19,7 @@ use Rattle.spec.specs.declared.Part.{Part}
 use Rattle.spec.specs.declared.Part.the-variants.{WriteNew, WriteEntry, UnlockNew}
 use Rattle.spec.specs.declared.Stage.{Stage}
 use Rattle.spec.specs.declared.Stage.the-variants.{NotBegun, ReadPage, Reread, Lock, Held, Split, Done}
-use Rattle.spec.specs.File.{File, zeroPage, pageAt}
+use Rattle.spec.specs.File.{File, zeroPage, pageAt, foundOf}
 use Rattle.spec.specs.Job.{Job, noOp}
 use Rattle.spec.specs.Split.{Grown}
 use Rattle.spec.specs.State.{State, Move}
@@ -136,9 +136,10 @@ module _ (op : Op) (x b n : ℕ) (p : Grown) where
   own-frozen s Done fi h = tt
 
 -- turn (d) writes no page
-decided-page : (s : State) (op : Op) (x : ℕ) (k : Kind) (o : Option Rec) → decided s op x k o .page ≡ none
-unfolding decided placed
-decided-page s op x Search o = refl
+decided-page : (s : State) (op : Op) (x : ℕ) (k : Kind) (o : Option Rec) → decided s op k (foundOf x o) .page ≡ none
+unfolding decided foundOf placed
+decided-page s op x Search none = refl
+decided-page s op x Search (some r) = refl
 decided-page s op x Insert none =
     if-case (λ (m : Move). m .page ≡ none) (λ a. refl)
     (λ a. if-case (λ (m : Move). m .page ≡ none) (λ b. refl) (λ b. if-case (λ (m : Move). m .page ≡ none) (λ c. refl) (λ c. refl)))

@@ -18,7 +18,7 @@ use Rattle.spec.specs.declared.Part.{Part}
 use Rattle.spec.specs.declared.Part.the-variants.{WriteNew, WriteEntry, UnlockNew}
 use Rattle.spec.specs.declared.Stage.{Stage}
 use Rattle.spec.specs.declared.Stage.the-variants.{NotBegun, ReadPage, Reread, Lock, Held, Split, Done}
-use Rattle.spec.specs.File.{File, pageAt}
+use Rattle.spec.specs.File.{File, pageAt, foundOf}
 use Rattle.spec.specs.Job.{Job, noOp}
 use Rattle.spec.specs.Split.{splitCount}
 use Rattle.spec.specs.State.{State, same, Move, go}
@@ -93,8 +93,8 @@ module _ (s : State) (op : Op) where
   begin-full Insert x = tt
   begin-full Delete x = tt
 
-  looked-full : (x : ℕ) (o : Option Rec) → After (looked s op x o)
-  unfolding looked
+  looked-full : (x : ℕ) (o : Option Rec) → After (looked s op (foundOf x o))
+  unfolding looked foundOf
   looked-full x none = tt
   looked-full x (some r) = tt
 
@@ -103,9 +103,10 @@ module _ (s : State) (op : Op) where
   placed-full x =
       if-case After (λ a. tt) (λ a. if-case After (λ b. tt) (λ b. if-case After (λ c. tt) (λ c. ltb-false _ _ a)))
 
-  decided-full : (x : ℕ) (k : Kind) (o : Option Rec) → After (decided s op x k o)
-  unfolding decided
-  decided-full x Search o = tt
+  decided-full : (x : ℕ) (k : Kind) (o : Option Rec) → After (decided s op k (foundOf x o))
+  unfolding decided foundOf
+  decided-full x Search none = tt
+  decided-full x Search (some r) = tt
   decided-full x Insert none = placed-full x
   decided-full x Insert (some r) = tt
   decided-full x Delete none = tt

@@ -32,14 +32,14 @@ Fits H lo now op k c t = Says op (H t (op .call)) (H (suc t) (op .call)) k c × 
 
 abbrev FitsAnswer : (ℕ → ℕ → Option Rec) → ℕ → ℕ → Op → Answer → Type 0
 FitsAnswer H lo now op same = Unit {0}
-FitsAnswer H lo now op (answer k c t) = Fits H lo now op k c t
+FitsAnswer H lo now op (answer k c x t) = Fits H lo now op k c t
 
 own-fits
-    : (H : ℕ → ℕ → Option Rec) (lo : ℕ) (s : State) (m : Move) (op : Op) (st : Stage) (a : Answer)
+    : (H : ℕ → ℕ → Option Rec) (lo : ℕ) (s : State) (m : Move) (op : Op) (st : Stage) (a : Answer) {y : ℕ}
     → ((k : ℕ) → H (s .now) k ≡ lookup (s .file) k)
     → ((k : ℕ) → H (suc (s .now)) k ≡ lookup (fileAfter m (s .file)) k)
     → Reads H lo s op st
-    → Own s st op (lookup (s .file) (op .call)) (lookup (fileAfter m (s .file)) (op .call)) a
+    → Own s st op (lookup (s .file) (op .call)) (lookup (fileAfter m (s .file)) (op .call)) y a
     → lo ≤ s .now
     → FitsAnswer H lo (s .now) op a
 unfolding foundMoment entryOf homeOf
@@ -56,7 +56,7 @@ own-fits H lo s m op st a before after h (seesNone x t k z u e) b =
     let h' : Reads H lo s op (Reread x t) = rw z at h in
     let c = h' .2 u in
     (isNone k (c .0) (c .1 ∙ sym (c .0)), omega (arith, h' .1), ⊎-elim (λ w. absurd (omega arith)) (λ w. absurd (omega arith)), h' .3)
-own-fits H lo s m op st a before after h (says y) b = (rw (before (op .call), after (op .call)) y, omega arith, λ w. refl, b)
+own-fits H lo s m op st a before after h (says n u w y) b = (rw (before (op .call), after (op .call)) y, omega arith, λ w. refl, b)
 
 -- a row's answer is right, and if it changes what is held, the turn of its moment, as W names them, was the operation's
 abbrev pub RowRight : (ℕ → ℕ → Option Rec) → (ℕ → ℕ) → ℕ → ℕ → Op → ℕ → Row → Type 0
@@ -117,7 +117,7 @@ module _ (H : ℕ → ℕ → Option Rec) (W F : ℕ → ℕ) (ops : List Op) (s
           → RowRight H W (F i) i (getD ops i noOp) (s .now + 1) (rowAfter (go Done a) (rowOf s i))
       unfolding codeAfter chargeAfter momentAfter
       own-right same h n = let c = past .right i n in (c .0, omega (arith, c .1), c .2, c .3)
-      own-right (answer k c t) h n = (h .0, h .1, λ w. ap W (h .2 w) ∙ mine, h .3)
+      own-right (answer k c x t) h n = (h .0, h .1, λ w. ap W (h .2 w) ∙ mine, h .3)
 
       -- one that comes to read a page, and one that comes to split into it
       unread-after : (a b p : ℕ) → Reading (stageOf (act s i m) a) p → Unreached (stageOf (act s i m) b) p → ⊥

@@ -21,7 +21,7 @@ use Rattle.spec.specs.declared.Part.the-variants.{WriteNew, WriteEntry, UnlockN
 use Rattle.spec.specs.declared.Stage.{Stage}
 use Rattle.spec.specs.declared.Stage.the-variants.{NotBegun, ReadPage, Reread, Lock, Held, Split, Done}
 use Rattle.spec.specs.Basics.{if}
-use Rattle.spec.specs.File.{Page, zeroPage, pageAt, entryAt}
+use Rattle.spec.specs.File.{Page, zeroPage, pageAt, entryAt, foundOf}
 use Rattle.spec.specs.Job.{noOp}
 use Rattle.spec.specs.State.{State, Answer, same, Move, go, goLock, goPage}
 use Rattle.spec.specs.Turn.{homeOf, entryOf, recOf, planOf, newCount, goesTo, begin, looked, reread, placed, decided, written, verified, oldWritten, heldTurn, entriesFrom, splitTurn, turn}
@@ -64,8 +64,8 @@ module _ (ops : List Op) (s : State) (op : Op) (good : Good ops s) where
         entry = tt;
       }
 
-  looked-legal : (x : ℕ) (o : Option Rec) → PageNo (s .file) x → L (ReadPage x) (looked s op x o)
-  unfolding looked
+  looked-legal : (x : ℕ) (o : Option Rec) → PageNo (s .file) x → L (ReadPage x) (looked s op (foundOf x o))
+  unfolding looked foundOf
   looked-legal x none h = calm (λ p. Iff·rfl) h
   looked-legal x (some r) h = calm (λ p. Iff·rfl) tt
 
@@ -154,9 +154,10 @@ module _ (ops : List Op) (s : State) (op : Op) (good : Good ops s) where
       let w = count-full (s .file .c) (s .file .g) (pageAt (s .file) x) (recOf op) (ltb-false _ _ a) in
       claim-legal x _ h refl (omega arith) (ltb-false _ _ c))))
 
-  decided-legal : (x : ℕ) (k : Kind) (o : Option Rec) → PageNo (s .file) x → L (Held x Decide) (decided s op x k o)
-  unfolding decided
-  decided-legal x Search o h = calm (λ p. Iff·rfl) (h, tt)
+  decided-legal : (x : ℕ) (k : Kind) (o : Option Rec) → PageNo (s .file) x → L (Held x Decide) (decided s op k (foundOf x o))
+  unfolding decided foundOf
+  decided-legal x Search none h = calm (λ p. Iff·rfl) (h, tt)
+  decided-legal x Search (some r) h = calm (λ p. Iff·rfl) (h, tt)
   decided-legal x Insert none h = placed-legal x h
   decided-legal x Insert (some r) h = calm (λ p. Iff·rfl) (h, tt)
   decided-legal x Delete none h = calm (λ p. Iff·rfl) (h, tt)

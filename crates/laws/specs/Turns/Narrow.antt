@@ -18,12 +18,12 @@ use Rattle.spec.specs.declared.Stage.{Stage}
 use Rattle.spec.specs.declared.Stage.the-variants.{NotBegun, ReadPage, Reread, Lock, Held, Split, Done}
 use Rattle.spec.specs.Basics.{if, Each, end, next}
 use Rattle.spec.specs.Key.{bit}
-use Rattle.spec.specs.File.{Page, File, zeroPage, pageAt, findIn, without}
+use Rattle.spec.specs.File.{Page, File, zeroPage, pageAt, findIn, without, foundOf}
 use Rattle.spec.specs.Job.{Job, noOp}
 use Rattle.spec.specs.Split.{withBit, half, added, Grown, grow}
 use Rattle.spec.specs.Code.{stored}
 use Rattle.spec.specs.State.{Row, State, Answer, same, answer, PageWrite, Move, gone, go}
-use Rattle.spec.specs.Turn.{recOf, planOf, begin, looked, reread, placed, decided, chargeIn, cleared, written, verified, oldWritten, heldTurn, splitTurn, turn}
+use Rattle.spec.specs.Turn.{recOf, planOf, begin, looked, reread, placed, decided, struck, cleared, written, verified, oldWritten, heldTurn, splitTurn, turn}
 use Rattle.spec.specs.Run.{tableAfter, chargeAfter, rowAfter, rowOf, stageOf, tick, act, step, start, run}
 use Rattle.laws.specs.Tools.{if-case, first, rest, each-or, set-all, filter-each}
 use Rattle.laws.specs.Turns.Records.{find-each}
@@ -60,7 +60,7 @@ module _ (P : Rec → Type 0) where
   module _ (C : ℕ → Type 0) (none-charge : C 0) (of-rec : (r : Rec) → P r → C (r .charge)) where
     abbrev Charged : Answer → Type 0
     Charged same = Unit {0}
-    Charged (answer k c t) = C c
+    Charged (answer k c x t) = C c
 
     -- what a move must be: the page that it writes and the charge that it answers are such
     record M (m : Move) : Type 0 where
@@ -78,8 +78,8 @@ module _ (P : Rec → Type 0) where
       begin-all Insert x = calm tt
       begin-all Delete x = calm tt
 
-      looked-all : (x : ℕ) (o : Option Rec) → findIn (pageAt (s .file) x .records) (op .call) ≡ o → M (looked s op x o)
-      unfolding looked
+      looked-all : (x : ℕ) (o : Option Rec) → findIn (pageAt (s .file) x .records) (op .call) ≡ o → M (looked s op (foundOf x o))
+      unfolding looked foundOf
       looked-all x none e = calm tt
       looked-all x (some r) e = calm (of-rec r (find-each _ (op .call) r (all x) e))
 
@@ -91,27 +91,28 @@ module _ (P : Rec → Type 0) where
           if-case M (λ b. calm none-charge)
           (λ b. if-case M (λ c. calm none-charge) (λ c. calm tt)))
 
-      decided-all : (x : ℕ) (k : Kind) (o : Option Rec) → findIn (pageAt (s .file) x .records) (op .call) ≡ o → M (decided s op x k o)
-      unfolding decided
-      decided-all x Search o e = calm tt
+      decided-all : (x : ℕ) (k : Kind) (o : Option Rec) → findIn (pageAt (s .file) x .records) (op .call) ≡ o → M (decided s op k (foundOf x o))
+      unfolding decided foundOf
+      decided-all x Search none e = calm tt
+      decided-all x Search (some r) e = calm tt
       decided-all x Insert none e = placed-all x _
       decided-all x Insert (some r) e = calm (of-rec r (find-each _ (op .call) r (all x) e))
       decided-all x Delete none e = calm none-charge
       decided-all x Delete (some r) e = calm tt
 
-      in-all : (rs : List Rec) (k : ℕ) (o : Option Rec) → Each P rs → findIn rs k ≡ o → C (chargeIn o)
-      unfolding chargeIn
-      in-all rs k none h e = none-charge
-      in-all rs k (some r) h e = of-rec r (find-each rs k r h e)
+      struck-all : (x : ℕ) (o : Option Rec) → findIn (pageAt (s .file) x .records) (op .call) ≡ o → Charged (struck (s .now) (foundOf x o))
+      unfolding struck foundOf
+      struck-all x none e = none-charge
+      struck-all x (some r) e = of-rec r (find-each _ (op .call) r (all x) e)
 
       written-all : (x : ℕ) (k : Kind) → M (written s op x k (pageAt (s .file) x))
       unfolding written added cleared without
       written-all x Search = calm tt
       written-all x Insert = record { page = put-each _ _ (all x) own; charge = of-rec (recOf op) own }
-      written-all x Delete = record { page = filter-each _ _ (λ a i u. i) (all x); charge = in-all _ (op .call) _ (all x) refl }
+      written-all x Delete = record { page = filter-each _ _ (λ a i u. i) (all x); charge = struck-all x _ refl }
 
-      stored-all : (t : Bool) → Charged (if t (answer stored (op .charge) (s .now)) same)
-      stored-all t = if-case Charged (λ e. of-rec (recOf op) own) (λ e. tt)
+      stored-all : (t : Bool) (x : ℕ) → Charged (if t (answer stored (op .charge) x (s .now)) same)
+      stored-all t x = if-case Charged (λ e. of-rec (recOf op) own) (λ e. tt)
 
       plan-all : (x : ℕ) → Each EachOf (planOf (s .file) op x .old ∷ planOf (s .file) op x .news)
       unfolding planOf
@@ -123,13 +124,13 @@ module _ (P : Rec → Type 0) where
       held-all x (Release y) = calm tt
       held-all x Decide = decided-all x _ _ refl
       held-all x WritePage = written-all x _
-      held-all x WriteOld = record { page = first (plan-all x); charge = stored-all _ }
+      held-all x WriteOld = record { page = first (plan-all x); charge = stored-all _ _ }
       held-all x Unlock = calm tt
 
       split-all : (x b n : ℕ) (q : Part) → M (splitTurn s op x b n q)
       unfolding splitTurn
       split-all x b n (WriteNew i) = record { page = each-or _ (i - 1) zeroPage end (rest (plan-all x)); charge = tt }
-      split-all x b n (WriteEntry j) = record { page = tt; charge = stored-all _ }
+      split-all x b n (WriteEntry j) = record { page = tt; charge = stored-all _ _ }
       split-all x b n UnlockNew = calm tt
 
       turn-all : (st : Stage) → M (turn s op st)
@@ -160,7 +161,7 @@ module _ (P : Rec → Type 0) where
     charge-after : (z : Answer) (r : Row) → Charged z → C (r .charge) → C (chargeAfter z r)
     unfolding chargeAfter
     charge-after same r h c = c
-    charge-after (answer k a t) r h c = h
+    charge-after (answer k a x t) r h c = h
 
     act-every : (s : State) (i : ℕ) (m : Move) → M m → Every s → Every (act s i m)
     unfolding rowOf pageAt

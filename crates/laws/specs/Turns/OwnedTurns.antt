@@ -20,7 +20,7 @@ use Rattle.spec.specs.declared.Part.the-variants.{WriteNew, WriteEntry, UnlockN
 use Rattle.spec.specs.declared.Stage.{Stage}
 use Rattle.spec.specs.declared.Stage.the-variants.{NotBegun, ReadPage, Reread, Lock, Held, Split, Done}
 use Rattle.spec.specs.Key.{index}
-use Rattle.spec.specs.File.{Page, File, zeroPage, pageAt, entryAt}
+use Rattle.spec.specs.File.{Page, File, zeroPage, pageAt, entryAt, foundOf}
 use Rattle.spec.specs.Split.{added}
 use Rattle.spec.specs.State.{State, Answer, same, Move, go, goLock, goPage, goEntry}
 use Rattle.spec.specs.Turn.{planOf, goesTo, begin, looked, reread, placed, decided, cleared, written, verified, oldWritten, heldTurn, entriesFrom, splitTurn, turn}
@@ -82,8 +82,8 @@ module _ (ops : List Op) (s : State) (op : Op) (good : Good ops s) (coherent : C
   begin-keeps Insert x = pause (λ p h. h) tt
   begin-keeps Delete x = pause (λ p h. h) tt
 
-  looked-keeps : (x : ℕ) (o : Option Rec) → K (ReadPage x) (looked s op x o)
-  unfolding looked
+  looked-keeps : (x : ℕ) (o : Option Rec) → K (ReadPage x) (looked s op (foundOf x o))
+  unfolding looked foundOf
   looked-keeps x none = pause (λ p h. h) tt
   looked-keeps x (some r) = pause (λ p h. h) tt
 
@@ -99,9 +99,10 @@ module _ (ops : List Op) (s : State) (op : Op) (good : Good ops s) (coherent : C
       calm (λ p n h. h) (λ p l h. inr (omega arith))
       (record { stay = λ k i z. o k i; later = λ k i l. o k i; moved = λ k i l. absurd (omega arith) }))))
 
-  decided-keeps : (x : ℕ) (k : Kind) (r : Option Rec) → Owned f x → K (Held x Decide) (decided s op x k r)
-  unfolding decided
-  decided-keeps x Search r o = pause (λ p h. h) tt
+  decided-keeps : (x : ℕ) (k : Kind) (r : Option Rec) → Owned f x → K (Held x Decide) (decided s op k (foundOf x r))
+  unfolding decided foundOf
+  decided-keeps x Search none o = pause (λ p h. h) tt
+  decided-keeps x Search (some r) o = pause (λ p h. h) tt
   decided-keeps x Insert none o = placed-keeps x o
   decided-keeps x Insert (some r) o = pause (λ p h. h) tt
   decided-keeps x Delete none o = pause (λ p h. h) tt

@@ -17,10 +17,11 @@ use Rattle.spec.specs.declared.Task.the-variants.{Decide, WritePage}
 use Rattle.spec.specs.declared.Stage.{Stage}
 use Rattle.spec.specs.declared.Stage.the-variants.{NotBegun, ReadPage, Held}
 use Rattle.spec.specs.Key.{index}
-use Rattle.spec.specs.File.{Page, File, pageAt, entryAt, findIn}
+use Rattle.spec.specs.File.{Page, File, pageAt, entryAt, findIn, foundOf}
+use Rattle.spec.specs.Code.{deleted}
 use Rattle.spec.specs.Split.{added}
 use Rattle.spec.specs.State.{State, Answer, same, Move, go, goPage}
-use Rattle.spec.specs.Turn.{homeOf, recOf, begin, looked, placed, decided, chargeIn, cleared, written}
+use Rattle.spec.specs.Turn.{homeOf, recOf, begin, looked, placed, decided, struck, cleared, written}
 use Rattle.spec.specs.Run.{tableAfter, directoryAfter, fileAfter}
 use Rattle.spec.specs.Proper.{In, PageNo, PageOk}
 use Rattle.laws.specs.Tools.{if-case}
@@ -32,9 +33,9 @@ use Rattle.laws.specs.Turns.Pages.{added-ok, cleared-ok}
 use Rattle.laws.specs.Turns.Rows.{still}
 use Rattle.laws.specs.Turns.Good.{Good, page-lt}
 use Rattle.laws.specs.Turns.Work.{WorkTask, Work}
-use Rattle.laws.specs.Turns.Lookup.{lookup, lookup-at, page-not, page-same, page-home, page-lookup, page-own}
+use Rattle.laws.specs.Turns.Lookup.{lookup, lookup-at, page-not, page-dir, page-same, page-home, page-lookup, page-own}
 use Rattle.laws.specs.Turns.Says.{isStored, isThere, isDeleted, isAbsent, isNoDepth, isNoPage}
-use Rattle.laws.specs.Turns.Does.{Own, quiet, sees, says, Coherent, Starts, Sub, Does}
+use Rattle.laws.specs.Turns.Does.{Own, quiet, sees, says, storing, deciding, writing, Coherent, Starts, Sub, Does}
 
 module _ (ops : List Op) (s : State) (op : Op) (good : Good ops s) (coherent : Coherent ops s) where
   abbrev f : File
@@ -47,7 +48,7 @@ module _ (ops : List Op) (s : State) (op : Op) (good : Good ops s) (coherent : C
   pub calm
       : {st to : Stage} {a : Answer} {x n t : ℕ} {v : Bool}
       → Work (fileAfter (still to a x n v t) f) op to
-      → Own s st op (lookup f (op .call)) (lookup f (op .call)) a
+      → Own s st op (lookup f (op .call)) (lookup f (op .call)) (entryAt f (homeOf f op)) a
       → Starts s op st to
       → D st (still to a x n v t)
   unfolding lookup pageAt entryAt tableAfter directoryAfter
@@ -75,8 +76,8 @@ module _ (ops : List Op) (s : State) (op : Op) (good : Good ops s) (coherent : C
       : (x : ℕ) (o : Option Rec)
       → op .kind ≡ Search
       → findIn (pageAt f x .records) (op .call) ≡ o
-      → D (ReadPage x) (looked s op x o)
-  unfolding looked
+      → D (ReadPage x) (looked s op (foundOf x o))
+  unfolding looked foundOf
   looked-does x none e h = calm e (quiet refl) (refl, refl, h)
   looked-does x (some r) e h = calm tt (sees x r e refl h refl) tt
 
@@ -96,7 +97,7 @@ module _ (ops : List Op) (s : State) (op : Op) (good : Good ops s) (coherent : C
       → PageOk (f .g) (f .c) q
       → ((k : ℕ) → entryAt f (index (f .g) k) ≡ y → In q k)
       → ((k : ℕ) → (k ≡ op .call → ⊥) → entryAt f (index (f .g) k) ≡ y → findIn (q .records) k ≡ findIn (pageAt f y .records) k)
-      → Own s st op (lookup f (op .call)) (lookup (fileAfter (goPage to a y q) f) (op .call)) a
+      → Own s st op (lookup f (op .call)) (lookup (fileAfter (goPage to a y q) f) (op .call)) (entryAt f (homeOf f op)) a
       → Sub f st (some (record { number = y; page = q }))
       → Work (fileAfter (goPage to a y q) f) op to
       → Starts s op st to
@@ -112,7 +113,7 @@ module _ (ops : List Op) (s : State) (op : Op) (good : Good ops s) (coherent : C
         home = λ k. page-home f y q lt (λ p. In p k) k (coherent .home k) (cov k);
         work = w;
         others = λ k n. page-lookup f y q lt k (oth k n);
-        own = own;
+        own = rw (page-dir f y q (homeOf f op)) own;
       }
     where
       lt : y < length (f .table)
@@ -135,11 +136,11 @@ module _ (ops : List Op) (s : State) (op : Op) (good : Good ops s) (coherent : C
     placed-does : op .kind ≡ Insert → findIn (pageAt f x .records) (op .call) ≡ none → D (Held x Decide) (placed s op x (pageAt f x))
     unfolding placed homeOf entryAt pageAt tableAfter directoryAfter
     placed-does i n =
-        if-case (D (Held x Decide)) (λ a. calm (at, λ k. (n, ltb-true _ _ a), λ k. absurd (not-both i k)) (quiet refl) tt)
+        if-case (D (Held x Decide)) (λ a. calm (at, λ k. (n, ltb-true _ _ a), λ k. absurd (not-both i k)) (quiet refl) refl)
         (λ a.
-        if-case (D (Held x Decide)) (λ b. calm tt (says (isNoDepth i (here ∙ n) refl)) tt)
+        if-case (D (Held x Decide)) (λ b. calm tt (says (omega arith) at deciding (isNoDepth i (here ∙ n) refl)) tt)
         (λ b.
-        if-case (D (Held x Decide)) (λ c. calm tt (says (isNoPage i (here ∙ n) refl)) tt)
+        if-case (D (Held x Decide)) (λ c. calm tt (says (omega arith) at deciding (isNoPage i (here ∙ n) refl)) tt)
         (λ c.
         calm (
           record { kind = i; here = mine; absent = n; depth = not-allShare (f .g) _ (op .call) (fit-32 f (good .fit)) b },
@@ -152,13 +153,14 @@ module _ (ops : List Op) (s : State) (op : Op) (good : Good ops s) (coherent : C
         : (k : Kind) (o : Option Rec)
         → op .kind ≡ k
         → findIn (pageAt f x .records) (op .call) ≡ o
-        → D (Held x Decide) (decided s op x k o)
-    unfolding decided homeOf entryAt pageAt tableAfter directoryAfter
-    decided-does Search o e h = calm tt (quiet refl) tt
+        → D (Held x Decide) (decided s op k (foundOf x o))
+    unfolding decided foundOf homeOf entryAt pageAt tableAfter directoryAfter
+    decided-does Search none e h = calm tt (quiet refl) tt
+    decided-does Search (some r) e h = calm tt (quiet refl) tt
     decided-does Insert none e h = placed-does e h
-    decided-does Insert (some r) e h = calm tt (says (isThere r e (here ∙ h) refl)) tt
-    decided-does Delete none e h = calm tt (says (isAbsent e (here ∙ h) refl)) tt
-    decided-does Delete (some r) e h = calm (at, λ k. absurd (not-both k e), λ k. (r, h)) (quiet refl) tt
+    decided-does Insert (some r) e h = calm tt (says (omega arith) at deciding (isThere r e (here ∙ h) refl)) tt
+    decided-does Delete none e h = calm tt (says (omega arith) at deciding (isAbsent e (here ∙ h) refl)) tt
+    decided-does Delete (some r) e h = calm (at, λ k. absurd (not-both k e), λ k. (r, h)) (quiet refl) refl
 
     in-x : (k : ℕ) → entryAt f (index (f .g) k) ≡ x → In (pageAt f x) k
     in-x k e = rw e at (coherent .home k)
@@ -169,13 +171,14 @@ module _ (ops : List Op) (s : State) (op : Op) (good : Good ops s) (coherent : C
         → PageNo f x
         → WorkTask f op x WritePage
         → D (Held x WritePage) (written s op x k (pageAt f x))
-    unfolding written added cleared chargeIn homeOf
+    unfolding written added cleared struck foundOf homeOf
     written-does Search e l w = calm tt (quiet refl) tt
     written-does Insert e l w =
         let h = w .1 e in
         put x _ (l .1) (added-ok (f .g) (f .c) (pageAt f x) (recOf op) (coherent .pages x) mine (h .1) (h .0)) in-x
         (λ k n d. put-other (pageAt f x .records) (recOf op) k n)
-        (says (isStored e (here ∙ h .0)
+        (says (omega arith) at storing
+        (isStored e (here ∙ h .0)
         (page-own f x _ (page-lt f (good .fit) x (l .1)) (op .call) at ∙ put-own (pageAt f x .records) (recOf op) (h .0))))
         (inr (λ k r u n. sym (put-other (pageAt f x .records) (recOf op) k (λ z. n (rw z at))) ∙ u))
         tt
@@ -185,7 +188,8 @@ module _ (ops : List Op) (s : State) (op : Op) (good : Good ops s) (coherent : C
         put x _ (l .1) (cleared-ok (f .g) (f .c) (pageAt f x) (op .call) (coherent .pages x)) in-x
         (λ k n d. without-other (pageAt f x .records) (op .call) k n)
         (rw (h .1)
-        (says (isDeleted (h .0) e (here ∙ h .1)
+        (says {k = deleted} (omega arith) at writing
+        (isDeleted (h .0) e (here ∙ h .1)
         (page-own f x _ (page-lt f (good .fit) x (l .1)) (op .call) at ∙ without-own (pageAt f x .records) (op .call)))))
         (inr (λ k r u n. sym (without-other (pageAt f x .records) (op .call) k (λ z. n (rw z at))) ∙ u))
         tt

@@ -114,11 +114,11 @@ sub-page f st (some w) x k r h u n e =
     (λ q. rw (getD-set-other (f .table) (w .number) x (w .page) zeroPage q) at e)
 
 -- a search changes nothing
-own-search : {s : State} {st : Stage} {op : Op} {a b : Option Rec} {z : Answer} → op .kind ≡ Search → Own s st op a b z → b ≡ a
+own-search : {s : State} {st : Stage} {op : Op} {a b : Option Rec} {y : ℕ} {z : Answer} → op .kind ≡ Search → Own s st op a b y z → b ≡ a
 own-search k (quiet e) = e
 own-search k (sees x r h i j e) = e
 own-search k (seesNone x t h i j e) = e
-own-search k (says y) = ⊎-elim (λ e. e) (λ e. absurd (e .1 k)) (says-change y)
+own-search k (says n u w y) = ⊎-elim (λ e. e) (λ e. absurd (e .1 k)) (says-change y)
 
 -- no entry names a page of a split that is not reached yet
 pub unreached-entry : (f : File) (op : Op) {st : Stage} {p : ℕ} (e : ℕ) → Work f op st → Unreached st p → entryAt f e ≡ p → ⊥

@@ -114,7 +114,7 @@ added-twice rs r h n =
     by-cases (ℕ-discrete (r .call) k) (λ e. inl (rw (← e) n)) (λ e. inr (find-miss r [] k e ∙ find-nil k)))
 
 -- what is found is in the list; where no call is twice, what is in the list is found
-find-has : (rs : List Rec) (k : ℕ) (r : Rec) → findIn rs k ≡ some r → Has r rs × (r .call ≡ k)
+pub find-has : (rs : List Rec) (k : ℕ) (r : Rec) → findIn rs k ≡ some r → Has r rs × (r .call ≡ k)
 find-has [] k r h = let z : _≡_ {A = ℕ} 0 1 = cc (find-nil k) in absurd (omega arith)
 find-has (a ∷ rs) k r h =
     by-cases (ℕ-discrete (a .call) k) (λ (e : a .call ≡ k). let z : a ≡ r = cc (find-hit a rs k e) in (rw z here, rw (← z) e))

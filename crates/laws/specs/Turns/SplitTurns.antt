@@ -34,7 +34,7 @@ use Rattle.laws.specs.Turns.Work.{Plan, Moving, Written, WorkPart, plan-
 use Rattle.laws.specs.Turns.Lookup.{lookup, lookup-at, page-not, page-dir, page-same, page-lookup, page-own, entry-not, entry-page, entry-same, entry-home, entry-lookup, entry-own}
 use Rattle.laws.specs.Turns.SplitPlan.{made, serves, stays-old, old-stays, goes-new}
 use Rattle.laws.specs.Turns.Says.{isStored}
-use Rattle.laws.specs.Turns.Does.{Own, quiet, says, Coherent, fresh, StartsPart, Does}
+use Rattle.laws.specs.Turns.Does.{Own, quiet, says, storing, Coherent, fresh, StartsPart, Does}
 use Rattle.laws.specs.Turns.PageTurns.{calm, put}
 
 module _ (ops : List Op) (s : State) (op : Op) (good : Good ops s) (coherent : Coherent ops s) where
@@ -60,10 +60,11 @@ module _ (ops : List Op) (s : State) (op : Op) (good : Good ops s) (coherent : C
     unfolding oldWritten homeOf
     old-does mv =
         put ops s op good coherent x _ (no .1) (first plan-made .ok) into (λ k n d. first plan-serves .kept k (into k d) n)
-        (if-case (Own s _ op (lookup f (op .call)) (lookup (fileAfter (goPage Done same x (planOf f op x .old)) f) (op .call)))
+        (if-case (Own s _ op (lookup f (op .call)) (lookup (fileAfter (goPage Done same x (planOf f op x .old)) f) (op .call)) (entryAt f (homeOf f op)))
         (λ e.
         let d = mv .stays (eqb-true _ _ e) in
-        says (isStored (pl .kind) (lookup-at f (op .call) x d ∙ pl .absent)
+        says (omega arith) d storing
+        (isStored (pl .kind) (lookup-at f (op .call) x d ∙ pl .absent)
         (page-own f x _ lt (op .call) d ∙ first plan-made .there (into (op .call) d))))
         (λ e. quiet (page-lookup f x _ lt (op .call) (λ d. absurd (eqb-false _ _ e (stays (op .call) d))))))
         (inr (λ k r u n. sub k r u n))
@@ -181,10 +182,11 @@ module _ (ops : List Op) (s : State) (op : Op) (good : Good ops s) (coherent : C
           work = (plan-after f m op x pg pl, entries-work m b n (suc j) pg wr dr st hm ah);
           others = λ k z. entry-lookup f j y lt k (λ e. finds k ∙ served .kept k (o .3 k e) z ∙ rw (w .1) refl);
           own =
-              if-case (Own s _ op (lookup f (op .call)) (lookup (fileAfter m f) (op .call)))
+              if-case (Own s _ op (lookup f (op .call)) (lookup (fileAfter m f) (op .call)) (entryAt (fileAfter m f) (homeOf f op)))
               (λ e.
               let z : homeOf f op ≡ j = sym (eqb-true _ _ e) in
-              says (isStored (pl .kind) (lookup-at f (op .call) x (rw z (w .1)) ∙ pl .absent)
+              says (omega arith) (rw z (entry-same f j y lt)) storing
+              (isStored (pl .kind) (lookup-at f (op .call) x (rw z (w .1)) ∙ pl .absent)
               (entry-own f j y lt (op .call) z ∙ finds (op .call) ∙ there .there (o .3 (op .call) z))))
               (λ e. quiet (entry-lookup f j y lt (op .call) (λ z. absurd (eqb-false _ _ e (sym z)))));
           sub = tt;

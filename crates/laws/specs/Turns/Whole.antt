@@ -101,7 +101,7 @@ pub end-whole : (j : Job) → FileOk (j .file) → Whole j (run j)
 end-whole j ok = rw (← stateAt-end j) (whole j ok (length (j .turns)) (omega arith))
 
 -- an answer that was given stays, to the end
-kept-on
+pub kept-on
     : (j : Job) (ok : FileOk (j .file)) (i t d : ℕ)
     → t + d ≤ length (j .turns)
     → (rowOf (stateAt j t) i .code ≡ notYet → ⊥)

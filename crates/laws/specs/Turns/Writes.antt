@@ -19,7 +19,7 @@ use Rattle.spec.specs.declared.Part.the-variants.{WriteNew, WriteEntry, UnlockN
 use Rattle.spec.specs.declared.Stage.{Stage}
 use Rattle.spec.specs.declared.Stage.the-variants.{NotBegun, ReadPage, Reread, Lock, Held, Split, Done}
 use Rattle.spec.specs.Key.{index, begins}
-use Rattle.spec.specs.File.{Page, File, zeroPage, pageAt, entryAt}
+use Rattle.spec.specs.File.{Page, File, zeroPage, pageAt, entryAt, foundOf}
 use Rattle.spec.specs.Job.{noOp}
 use Rattle.spec.specs.Split.{added}
 use Rattle.spec.specs.State.{State, Answer, same, PageWrite, EntryWrite, Move, go}
@@ -88,8 +88,8 @@ module _ (ops : List Op) (s : State) (op : Op) (good : Good ops s) (coherent : C
   begin-writes Insert x = calm
   begin-writes Delete x = calm
 
-  looked-writes : (x : ℕ) (o : Option Rec) → W (ReadPage x) (looked s op x o)
-  unfolding looked
+  looked-writes : (x : ℕ) (o : Option Rec) → W (ReadPage x) (looked s op (foundOf x o))
+  unfolding looked foundOf
   looked-writes x none = calm
   looked-writes x (some r) = calm
 
@@ -99,9 +99,10 @@ module _ (ops : List Op) (s : State) (op : Op) (good : Good ops s) (coherent : C
       if-case (W (Held x Decide)) (λ a. calm)
       (λ a. if-case (W (Held x Decide)) (λ b. calm) (λ b. if-case (W (Held x Decide)) (λ c. calm) (λ c. calm)))
 
-  decided-writes : (x : ℕ) (k : Kind) (o : Option Rec) → W (Held x Decide) (decided s op x k o)
-  unfolding decided
-  decided-writes x Search o = calm
+  decided-writes : (x : ℕ) (k : Kind) (o : Option Rec) → W (Held x Decide) (decided s op k (foundOf x o))
+  unfolding decided foundOf
+  decided-writes x Search none = calm
+  decided-writes x Search (some r) = calm
   decided-writes x Insert none = placed-writes x _
   decided-writes x Insert (some r) = calm
   decided-writes x Delete none = calm

@@ -2,9 +2,8 @@
 use mathlib.Core.Path.{_≡_, sym, ap, _∙_}
 use Prim.Native.Nat.{_+_, _-_, _<_, _≤_}
 use native.Mathlib.Omega.{arith}
-use Rattle.spec.specs.File.{lookIn}
+use Rattle.spec.specs.File.{lookIn, foundOf}
 use Rattle.spec.specs.Decode.{pageOf}
-use Rattle.spec.specs.Cases.{foundOf}
 use Rattle.spec.specs.declared.Found.the-variants.{Charge}
 use Rattle.laws.specs.Turns.CallsRise.{look-nil, look-hit, look-high, look-low}
 use Rattle.page.specs.View.{recordAt, recordsFrom, left-all, left-more, left-none}
@@ -12,10 +11,10 @@ use Rattle.page.proofs.find.Statement.{statement}
 use Rattle.page.proofs.find.Tie as tie
 
 abbrev Inv-loop : tie.InvT-loop
-Inv-loop page call n i₀ i = (i ≤ n) × (lookIn (pageOf page .records) call ≡ lookIn (recordsFrom page i (n - i)) call)
+Inv-loop page x call n i₀ i = (i ≤ n) × (lookIn (pageOf page .records) call ≡ lookIn (recordsFrom page i (n - i)) call)
 
 abbrev μ-loop : tie.MeasureT-loop
-μ-loop page call n i₀ i = n - i
+μ-loop page x call n i₀ i = n - i
 
 count-requires : tie.Need-count-requires Inv-loop μ-loop
 count-requires c κs = omega arith
@@ -39,7 +38,7 @@ returns c =
     let it = q .before .before .rec-at .ensures in
     let same : recordAt s (l .i) .call ≡ a .call = ap (λ r. r .call) (sym it) ∙ c .if2 .taken in
     let hit = look-hit (recordAt s (l .i)) (recordsFrom s (l .i + 1) (n - (l .i + 1))) (a .call) same in
-    rw (l .inv .1, left-more s (l .i) n (omega arith), hit) (ap (λ r. Charge (r .charge)) it)
+    rw (l .inv .1, left-more s (l .i) n (omega arith), hit) (ap (λ r. Charge (a .x) (r .charge)) it)
 
 returns-2 : tie.Need-returns-2 Inv-loop μ-loop
 unfolding foundOf

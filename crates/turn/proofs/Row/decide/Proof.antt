@@ -1,6 +1,6 @@
 use mathlib.Core.Path.{sym, _∙_}
-use Rattle.turn.specs.Steps.{memDecided}
-use Rattle.turn.proofs.Founds.{decided-there, decided-free, decided-held, decided-absent}
+use Rattle.turn.specs.Steps.{memDecided, memRefused}
+use Rattle.turn.proofs.Founds.{missing-page, decided-search}
 use borrow.Author.Needs.{needs}
 use Rattle.turn.proofs.Row.decide.Statement.{statement}
 use Rattle.turn.proofs.Row.decide.Tie as tie
@@ -23,23 +23,26 @@ enum-known-found c = search needs
 settled-requires : tie.Need-settled-requires
 settled-requires c κs = search needs
 
+enum-known-found-2 : tie.Need-enum-known-found-2
+enum-known-found-2 c = search needs
+
+place-requires : tie.Need-place-requires
+place-requires c κs =
+    let a = c .before .before .before .before .before .before .before .before .before in
+    let e = missing-page _ _ _ (sym (c .before .before .before .before .before .before .find-in .ensures) ∙ c .before .before .found2 .given .1) in
+    (a .pre .0, a .pre .1, rw e at (a .pre .2))
+
 enum-told-3 : tie.Need-enum-told-3
 enum-told-3 c = search needs
 
-place-requires : tie.Need-place-requires
-place-requires c κs = search needs
-
-enum-told-4 : tie.Need-enum-told-4
-enum-told-4 c = search needs
-
-enum-told-5 : tie.Need-enum-told-5
-enum-told-5 c = search needs
+enum-known-found-3 : tie.Need-enum-known-found-3
+enum-known-found-3 c = search needs
 
 moved-requires-2 : tie.Need-moved-requires-2
 moved-requires-2 c κs = search needs
 
-enum-told-6 : tie.Need-enum-told-6
-enum-told-6 c = search needs
+enum-known-found-4 : tie.Need-enum-known-found-4
+enum-known-found-4 c = search needs
 
 settled-requires-2 : tie.Need-settled-requires-2
 settled-requires-2 c κs = search needs
@@ -48,40 +51,40 @@ same-length : tie.Need-same-length
 same-length c = search needs
 
 returns : tie.Need-returns
-unfolding memDecided
-returns c = rw (c .before .enum-told .given .1, c .moved .ensures)
+returns c = rw (c .before .enum-told .given .1, c .moved .ensures) (sym (decided-search _ _ _ _ _ _ _))
 
 same-length-2 : tie.Need-same-length-2
 same-length-2 c = search needs
 
 returns-2 : tie.Need-returns-2
+unfolding memDecided memRefused
 returns-2 c =
-    rw (c .settled .ensures)
-    (sym (decided-there _ _ _ _ _ _ _ _ _ (c .before .before .before .before .enum-told2 .given .1) (sym (c .before .before .before .before .before .before .find-in .ensures) ∙ c .before .before .found .given .1)))
+    rw (c .settled .ensures, c .before .before .before .before .enum-told2 .given .1, sym (c .before .before .before .before .before .before .find-in .ensures) ∙ c .before .before .found .given .1)
 
 same-length-3 : tie.Need-same-length-3
 same-length-3 c = search needs
 
 returns-3 : tie.Need-returns-3
+unfolding memDecided
 returns-3 c =
-    c .before .before .place .ensures
-    ∙ sym (decided-free _ _ _ _ _ _ _ _ (c .before .before .before .before .before .before .enum-told2 .given .1) (sym (c .before .before .before .before .before .before .before .before .find-in .ensures) ∙ c .before .before .before .before .enum-told3 .given .1))
+    let p = c .before .before .before .before .before in
+    rw (c .before .before .place .ensures, p .before .before .enum-told2 .given .1, sym (p .before .before .before .before .find-in .ensures) ∙ p .found2 .given .1)
 
 same-length-4 : tie.Need-same-length-4
 same-length-4 c = search needs
 
 returns-4 : tie.Need-returns-4
+unfolding memDecided
 returns-4 c =
-    rw (c .moved2 .ensures)
-    (sym (decided-held _ _ _ _ _ _ _ _ _ (c .before .before .before .enum-told4 .given .1) (sym (c .before .before .before .before .before .find-in .ensures) ∙ c .before .enum-told5 .given .1)))
+    rw (c .moved2 .ensures, c .before .before .before .before .enum-told3 .given .1, sym (c .before .before .before .before .before .before .find-in .ensures) ∙ c .before .before .found3 .given .1)
 
 same-length-5 : tie.Need-same-length-5
 same-length-5 c = search needs
 
 returns-5 : tie.Need-returns-5
+unfolding memDecided memRefused
 returns-5 c =
-    rw (c .settled2 .ensures)
-    (sym (decided-absent _ _ _ _ _ _ _ _ (c .before .before .before .enum-told4 .given .1) (sym (c .before .before .before .before .before .find-in .ensures) ∙ c .before .enum-told6 .given .1)))
+    rw (c .settled2 .ensures, c .before .before .before .before .enum-told3 .given .1, sym (c .before .before .before .before .before .before .find-in .ensures) ∙ c .before .before .found4 .given .1)
 
 pub decide-spec : {M : Type 1} → statement M
 decide-spec =
@@ -93,12 +96,12 @@ decide-spec =
     enum-told-2
     enum-known-found
     settled-requires
-    enum-told-3
+    enum-known-found-2
     place-requires
-    enum-told-4
-    enum-told-5
+    enum-told-3
+    enum-known-found-3
     moved-requires-2
-    enum-told-6
+    enum-known-found-4
     settled-requires-2
     same-length
     returns

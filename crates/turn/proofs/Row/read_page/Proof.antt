@@ -1,5 +1,6 @@
 use mathlib.Core.Path.{sym, _∙_}
-use Rattle.turn.proofs.Founds.{found-some, looked-found, looked-none}
+use Rattle.turn.specs.Steps.{memLooked}
+use Rattle.turn.proofs.Founds.{found-some}
 use borrow.Author.Needs.{needs}
 use Rattle.turn.proofs.Row.read_page.Statement.{statement}
 use Rattle.turn.proofs.Row.read_page.Tie as tie
@@ -14,8 +15,8 @@ found-at-requires : tie.Need-found-at-requires
 found-at-requires c κs =
     let a = c .before .before .before .before .before in
     let v = c .before .found .given in
-    let some = found-some _ (v .0 .0) (sym (c .before .before .before .find-in .ensures) ∙ v .1) in
-    (a .pre .0, a .pre .2 .page .number, a .pre .2 .stale (some .0) (some .1))
+    let some = found-some _ _ _ _ (sym (c .before .before .before .find-in .ensures) ∙ v .1) in
+    rw (← some .2) (a .pre .0, a .pre .2 .page .number, a .pre .2 .stale (some .0) (some .1))
 
 moved-requires : tie.Need-moved-requires
 moved-requires c κs = search needs
@@ -23,22 +24,21 @@ moved-requires c κs = search needs
 answered-requires : tie.Need-answered-requires
 answered-requires c κs = search needs
 
-enum-told : tie.Need-enum-told
-enum-told c = search needs
+enum-known-found-2 : tie.Need-enum-known-found-2
+enum-known-found-2 c = search needs
 
 moved-requires-2 : tie.Need-moved-requires-2
 moved-requires-2 c κs = search needs
 
 returns : tie.Need-returns
+unfolding memLooked
 returns c =
     let p = c .before .before .before .before in
-    rw (c .answered .ensures, c .before .moved .ensures, c .before .before .found-at .ensures)
-    (sym (looked-found _ _ _ _ _ _ _ _ (sym (p .before .before .find-in .ensures) ∙ p .found .given .1)))
+    rw (c .answered .ensures, c .before .moved .ensures, c .before .before .found-at .ensures, sym (p .before .before .find-in .ensures) ∙ p .found .given .1)
 
 returns-2 : tie.Need-returns-2
-returns-2 c =
-    rw (c .moved2 .ensures)
-    (sym (looked-none _ _ _ _ _ _ _ (sym (c .before .before .before .find-in .ensures) ∙ c .before .enum-told .given .1)))
+unfolding memLooked
+returns-2 c = rw (c .moved2 .ensures, sym (c .before .before .before .before .find-in .ensures) ∙ c .before .before .found2 .given .1)
 
 pub read-page-spec : {M : Type 1} → statement M
 read-page-spec =
@@ -49,7 +49,7 @@ read-page-spec =
     found-at-requires
     moved-requires
     answered-requires
-    enum-told
+    enum-known-found-2
     moved-requires-2
     returns
     returns-2)

@@ -31,7 +31,7 @@ same-length c = search needs
 returns : tie.Need-returns
 unfolding memEntry
 returns c =
-    rw (c .answered .ensures, c .before .before .before .moved .ensures, c .before .before .before .before .before .before .before .before .after-entry .ensures, c .before .before .before .before .before .before .redirect .ensures)
+    rw (c .answered .ensures, c .before .before .before .moved .ensures, c .before .before .before .before .before .before .before .before .after-entry .ensures, c .before .before .before .before .before .before .redirect .ensures .1, c .before .before .before .before .before .before .redirect .ensures .0)
     (rw (if-eq _ _ _ _ (c .before .if1 .taken ∙ c .before .before .home .ensures .0)))
 
 same-length-2 : tie.Need-same-length-2
@@ -42,7 +42,7 @@ unfolding memEntry
 returns-2 c =
     let a = c .before .before .before .before .before .before .before .before .before .before .args in
     let other : a .j ≡ home (a .shape) (a .op) → ⊥ = λ e. c .if1 .left (e ∙ sym (c .before .home .ensures .0)) in
-    rw (c .before .before .moved .ensures, c .before .before .before .before .before .before .before .after-entry .ensures, c .before .before .before .before .before .redirect .ensures)
+    rw (c .before .before .moved .ensures, c .before .before .before .before .before .before .before .after-entry .ensures, c .before .before .before .before .before .redirect .ensures .1, c .before .before .before .before .before .redirect .ensures .0)
     (rw (if-ne _ _ _ _ other))
 
 pub write-entry-spec : {M : Type 1} → statement M

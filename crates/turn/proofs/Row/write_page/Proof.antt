@@ -27,11 +27,11 @@ settled-requires c κs = search needs
 enum-told-3 : tie.Need-enum-told-3
 enum-told-3 c = search needs
 
-charge-in-requires : tie.Need-charge-in-requires
-charge-in-requires c κs =
+find-in-requires : tie.Need-find-in-requires
+find-in-requires c κs =
     let a = c .before .before .before .before in
     let h = rw (c .before .enum-told3 .given .1) at (a .pre .2) in
-    (a .pre .0, h)
+    (record { size = a .pre .0 .size; capacity = a .pre .0 .capacity; number = h .number }, h .count)
 
 remove-from-requires : tie.Need-remove-from-requires
 remove-from-requires c κs =
@@ -39,8 +39,8 @@ remove-from-requires c κs =
     let h = rw (c .before .before .before .enum-told3 .given .1) at (a .pre .2) in
     (record { size = a .pre .0 .size; capacity = a .pre .0 .capacity; number = h .number }, h .count)
 
-settled-requires-2 : tie.Need-settled-requires-2
-settled-requires-2 c κs = search needs
+struck-requires : tie.Need-struck-requires
+struck-requires c κs = search needs
 
 returns : tie.Need-returns
 unfolding memWritten
@@ -58,7 +58,7 @@ same-length-2 c = search needs
 
 returns-3 : tie.Need-returns-3
 unfolding memWritten
-returns-3 c = rw (c .before .before .before .before .before .before .before .enum-told3 .given .1, c .settled2 .ensures, c .before .before .before .remove-from .ensures, c .before .before .before .before .before .charge-in .ensures)
+returns-3 c = rw (c .before .before .before .before .before .before .before .enum-told3 .given .1, c .struck .ensures, c .before .before .before .remove-from .ensures, c .before .before .before .before .before .find-in .ensures)
 
 pub write-page-spec : {M : Type 1} → statement M
 write-page-spec =
@@ -71,9 +71,9 @@ write-page-spec =
     add-to-requires
     settled-requires
     enum-told-3
-    charge-in-requires
+    find-in-requires
     remove-from-requires
-    settled-requires-2
+    struck-requires
     returns
     same-length
     returns-2

@@ -20,11 +20,11 @@ set-change-turn-requires c κs =
     let deep : c .before .before .page-depth .result < a .args .shape .depth = rw (c .before .before .page-depth .ensures .0) (plan-deep (a .pre .1 .plan)) in
     (a .pre .0 .size, a .pre .2, omega arith)
 
-cast-set-entry : tie.Need-cast-set-entry
-cast-set-entry c = search needs
+cast-y : tie.Need-cast-y
+cast-y c = search needs
 
-add-set-entry : tie.Need-add-set-entry
-add-set-entry c = search needs
+add-y : tie.Need-add-y
+add-y c = search needs
 
 set-entry-requires : tie.Need-set-entry-requires
 set-entry-requires c κs = search needs
@@ -34,7 +34,10 @@ same-length c = search needs
 
 returns : tie.Need-returns
 unfolding goes
-returns c = rw (c .before .before .set-entry .ensures, c .before .before .before .before .before .before .set-change-turn .ensures, c .before .before .before .before .before .before .before .before .last-one .ensures .0, c .before .before .before .before .before .before .before .before .before .page-depth .ensures .0)
+returns c =
+    let k = c .before .before .before .before .before .before .before .before .last-one .ensures .0 in
+    let d = c .before .before .before .before .before .before .before .before .before .page-depth .ensures .0 in
+    (rw (k, d), rw (c .before .before .set-entry .ensures, c .before .before .before .before .before .before .set-change-turn .ensures, d))
 
 pub redirect-spec : {M : Type 1} → statement M
 redirect-spec =
@@ -43,8 +46,8 @@ redirect-spec =
     page-depth-requires
     last-one-requires
     set-change-turn-requires
-    cast-set-entry
-    add-set-entry
+    cast-y
+    add-y
     set-entry-requires
     same-length
     returns)
