@@ -19,8 +19,13 @@
  *   - Refusal 0 is told exactly when no row of the refusal table that belongs to the call holds.
  *   - A job that meets no row that belongs to chargefile_run is run. What then stands in the result
  *     buffer is explained by its own log: the answered operations done one at a time in the log's
- *     order, on a plain list of calls, get the same answers and leave the calls that the file then
- *     holds. Its charge file, where there is one, is that file, and is accepted as a job by itself.
+ *     order, on a plain list of calls, get the same codes and charges and leave the calls that the
+ *     file then holds. Its charge file, where there is one, is that file, and is accepted as a job
+ *     by itself.
+ *   - At a stored insert's moment, the page told with its answer holds the call with its charge,
+ *     and the call's own entry names that page. The page told with a search is the one that it
+ *     read last; it held the record then, or, for "none", did not hold the call (PagesTold in
+ *     crates/spec/specs/Claims.antt).
  *   - A charge file that meets no row that belongs to chargefile_tidy is tidied. What is then
  *     written is accepted as a job by itself, so that it can be run like any other. It holds the
  *     same calls with the same charges, no two of its pages can be joined, and tidied again at the
@@ -57,7 +62,7 @@ extern "C" {
 /* ---- Versions. A job of another version is refused (CHARGEFILE_REFUSED_VERSION). */
 
 #define CHARGEFILE_JOB_VERSION 1u    /* of jobs, and so of charge files */
-#define CHARGEFILE_RESULT_VERSION 1u /* of results */
+#define CHARGEFILE_RESULT_VERSION 2u /* of results; the charge file in one has that of jobs */
 
 /* ---- Limits. A job with a count outside them is refused (CHARGEFILE_REFUSED_LIMIT). */
 
@@ -104,7 +109,7 @@ extern "C" {
 #define CHARGEFILE_TURN_SIZE 2u       /* an operation's number, from 0 */
 
 #define CHARGEFILE_RESULT_HEADER_SIZE 24u
-#define CHARGEFILE_ANSWER_SIZE 8u /* code (1), zero (1), turns used (2), charge (4) */
+#define CHARGEFILE_ANSWER_SIZE 8u /* code (1), page less one (1), turns used (2), charge (4) */
 #define CHARGEFILE_LINE_SIZE 4u   /* of the log: moment (2), operation (2) */
 
 /* ---- Where the fields of a result's header stand. */
@@ -117,6 +122,13 @@ extern "C" {
 #define CHARGEFILE_RESULT_AT_LOG_OFFSET 12u
 #define CHARGEFILE_RESULT_AT_FILE_OFFSET 16u /* 0: no charge file, for an operation is under way */
 #define CHARGEFILE_RESULT_AT_TOTAL 20u
+
+/* ---- Where the fields of an answer stand, counted in bytes from the answer's start. */
+
+#define CHARGEFILE_ANSWER_AT_CODE 0u   /* 1 byte: one of chargefile_code */
+#define CHARGEFILE_ANSWER_AT_PAGE 1u   /* 1 byte: chargefile_answer_page reads it */
+#define CHARGEFILE_ANSWER_AT_USED 2u   /* 2 bytes: turns used without waiting */
+#define CHARGEFILE_ANSWER_AT_CHARGE 4u /* 4 bytes */
 
 /* ---- How large. The macros are constant expressions where their arguments are, so that a buffer
  * can be laid out when the program is built. Arguments are counts within the limits above. */
@@ -256,19 +268,45 @@ enum chargefile_code {
 };
 
 /*
+ * The page behind an answer: its number, from 1. The answer has the number less one, so that page
+ * 256 fits into a byte.
+ *
+ *   Code                                The page
+ *   not yet                             none: 0
+ *   found, none                         the page that the search read last
+ *   stored, without a split             the page that the insert read and wrote
+ *   stored, with a split                the page that took the call: the one that was split, or the
+ *                                       new page that the call's own entry then names
+ *   deleted                             the page that the delete read and wrote
+ *   already there, absent, no depth,    the page that the operation read when it decided
+ *   no page
+ *
+ * It is told as of the answer's moment, and for a search as of its reading. In the charge file the
+ * call may stand in another page, or in none: a later split may have moved it, a delete may have
+ * struck it out. Tidying numbers the pages anew. docs/TURNS.md has more ("The page told").
+ */
+static inline uint32_t chargefile_answer_page(const uint8_t *answer)
+{
+    return answer[CHARGEFILE_ANSWER_AT_CODE] == CHARGEFILE_NOT_YET
+               ? 0
+               : (uint32_t)answer[CHARGEFILE_ANSWER_AT_PAGE] + 1;
+}
+
+/*
  * A row of the lent table: the library's notes about one operation under way. A caller only makes
  * room for it. What rows hold before a call does not matter; after a run every lent row, also past
  * the job's operations, is all zero, which stands for an operation not begun.
  */
 typedef struct chargefile_row {
     uint32_t charge; /* of its answer */
-    uint16_t stage;  /* what its next turn does; 0: not begun */
+    uint8_t stage;   /* what its next turn does; 0: not begun */
+    uint8_t code;    /* of its answer; 0: not yet */
     uint16_t page;   /* the page that it reads or holds */
     uint16_t base;   /* this and the next two: where it stands in that stage */
     uint16_t count;
     uint16_t next;
     uint16_t used;   /* turns used without waiting */
-    uint16_t code;   /* of its answer; 0: not yet */
+    uint16_t told;   /* the page told with its answer, from 1; 0: not yet */
     uint16_t moment; /* the turn number of its line in the log */
 } chargefile_row;
 
@@ -289,8 +327,8 @@ typedef char chargefile_outcome_has_24_bytes[sizeof(chargefile_outcome) == 24 ? 
 typedef char chargefile_size_has_8_bytes[sizeof(size_t) == 8 ? 1 : -1];
 
 /*
- * Checks the job_length bytes at `job`, for every refusal but 18, 19 and 11. Nothing is written; a check has
- * no output, so the length is 0.
+ * Checks the job_length bytes at `job`, for every refusal but 18, 19 and 11. Nothing is written; a
+ * check has no output, so the length is 0.
  */
 chargefile_outcome chargefile_check(const uint8_t *job, size_t job_length);
 

@@ -25,6 +25,11 @@ size_t cpp_result_size(const uint8_t *job, size_t job_length)
     return chargefile_result_size(job, job_length);
 }
 
+uint32_t cpp_answer_page(const uint8_t *answer)
+{
+    return chargefile_answer_page(answer);
+}
+
 size_t cpp_row_size(void)
 {
     return sizeof(chargefile_row);

@@ -15,6 +15,7 @@ chargefile_outcome cpp_run(const uint8_t *job, size_t job_length, uint8_t *resul
 chargefile_outcome cpp_tidy(const uint8_t *file, size_t file_length, uint64_t depth, uint8_t *out,
                             size_t out_length);
 size_t cpp_result_size(const uint8_t *job, size_t job_length);
+uint32_t cpp_answer_page(const uint8_t *answer);
 size_t cpp_row_size(void);
 size_t cpp_outcome_size(void);
 

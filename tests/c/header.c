@@ -9,19 +9,27 @@
 #include "harness.h"
 #include "lent.h"
 
+/* Where a field of a row stands, and how many bytes it has. */
+#define EXPECT_FIELD(field, at, size)                                                              \
+    do {                                                                                           \
+        EXPECT_EQUAL(offsetof(chargefile_row, field), at);                                         \
+        EXPECT_EQUAL(sizeof((chargefile_row *)0)->field, size);                                    \
+    } while (0)
+
 static void row_layout(void)
 {
     EXPECT_EQUAL(sizeof(chargefile_row), 20);
     EXPECT_EQUAL(alignof(chargefile_row), 4);
-    EXPECT_EQUAL(offsetof(chargefile_row, charge), 0);
-    EXPECT_EQUAL(offsetof(chargefile_row, stage), 4);
-    EXPECT_EQUAL(offsetof(chargefile_row, page), 6);
-    EXPECT_EQUAL(offsetof(chargefile_row, base), 8);
-    EXPECT_EQUAL(offsetof(chargefile_row, count), 10);
-    EXPECT_EQUAL(offsetof(chargefile_row, next), 12);
-    EXPECT_EQUAL(offsetof(chargefile_row, used), 14);
-    EXPECT_EQUAL(offsetof(chargefile_row, code), 16);
-    EXPECT_EQUAL(offsetof(chargefile_row, moment), 18);
+    EXPECT_FIELD(charge, 0, 4);
+    EXPECT_FIELD(stage, 4, 1);
+    EXPECT_FIELD(code, 5, 1);
+    EXPECT_FIELD(page, 6, 2);
+    EXPECT_FIELD(base, 8, 2);
+    EXPECT_FIELD(count, 10, 2);
+    EXPECT_FIELD(next, 12, 2);
+    EXPECT_FIELD(used, 14, 2);
+    EXPECT_FIELD(told, 16, 2);
+    EXPECT_FIELD(moment, 18, 2);
 }
 
 static void outcome_layout(void)
@@ -33,11 +41,11 @@ static void outcome_layout(void)
     EXPECT_EQUAL(offsetof(chargefile_outcome, length), 16);
 }
 
-/* "version (2 bytes, 1)" of a job, "version 1" of a result */
+/* "version (2 bytes, 1)" of a job, "The result's version is 2." */
 static void versions(void)
 {
     EXPECT_EQUAL(CHARGEFILE_JOB_VERSION, 1);
-    EXPECT_EQUAL(CHARGEFILE_RESULT_VERSION, 1);
+    EXPECT_EQUAL(CHARGEFILE_RESULT_VERSION, 2);
 }
 
 /* "depth 0 to 8, capacity 1 to 8, pages 1 to 256, operations 0 to 256, turns 0 to 16,384" */
@@ -152,6 +160,29 @@ static void page_fields(void)
     EXPECT_EQUAL(chargefile_four(page + CHARGEFILE_PAGE_HEAD_SIZE), 2);
 }
 
+/* "Answer, 8 bytes: code, zero byte, turns used without waiting (2), charge (4)", and in place of
+ * the zero byte "the page number less one" */
+static void answer_fields(void)
+{
+    EXPECT_EQUAL(CHARGEFILE_ANSWER_SIZE, 8);
+    EXPECT_EQUAL(CHARGEFILE_ANSWER_AT_CODE, 0);
+    EXPECT_EQUAL(CHARGEFILE_ANSWER_AT_PAGE, 1);
+    EXPECT_EQUAL(CHARGEFILE_ANSWER_AT_USED, 2);
+    EXPECT_EQUAL(CHARGEFILE_ANSWER_AT_CHARGE, 4);
+}
+
+/* Every code with every byte, from C and from C++. */
+static void page_of_an_answer(void)
+{
+    for (unsigned code = 0; code <= 8; code++) {
+        for (unsigned byte = 0; byte <= 255; byte++) {
+            const uint8_t answer[8] = {(uint8_t)code, (uint8_t)byte, 255, 255, 255, 255, 255, 255};
+            EXPECT_EQUAL(chargefile_answer_page(answer), code == 0 ? 0 : byte + 1);
+            EXPECT_EQUAL(cpp_answer_page(answer), code == 0 ? 0 : byte + 1);
+        }
+    }
+}
+
 static void numbers_are_little_endian(void)
 {
     static const uint8_t bytes[4] = {0x78, 0x56, 0x34, 0xF2};
@@ -188,6 +219,8 @@ void header_tests(void)
     test("header: refusal numbers", refusal_numbers);
     test("header: the places of refusal 11", places_of_11);
     test("header: where the fields of a page stand", page_fields);
+    test("header: where the fields of an answer stand", answer_fields);
+    test("header: the page of an answer", page_of_an_answer);
     test("header: numbers of 2 and 4 bytes", numbers_are_little_endian);
     test("header: the library called from C++", called_from_cpp);
 }

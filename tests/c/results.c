@@ -19,14 +19,15 @@ static void job_e_header(void)
 }
 
 /* "op 0 insert 4 stored 90 turns 9", "op 1 search 3 found 70 turns 2",
- * "op 2 delete 3 deleted 70 turns 6", "op 3 search 3 none 0 turns 3" */
+ * "op 2 delete 3 deleted 70 turns 6", "op 3 search 3 none 0 turns 3". Call 4 stays in page 1, which
+ * the first search reads too; the delete and the second search read page 2. */
 static void job_e_answers(void)
 {
     run_job_e(20, 148);
-    expect_answer(0, (answer){CHARGEFILE_STORED, 9, 90});
-    expect_answer(1, (answer){CHARGEFILE_FOUND, 2, 70});
-    expect_answer(2, (answer){CHARGEFILE_DELETED, 6, 70});
-    expect_answer(3, (answer){CHARGEFILE_NONE, 3, 0});
+    expect_answer(0, (answer){CHARGEFILE_STORED, 1, 9, 90});
+    expect_answer(1, (answer){CHARGEFILE_FOUND, 1, 2, 70});
+    expect_answer(2, (answer){CHARGEFILE_DELETED, 2, 6, 70});
+    expect_answer(3, (answer){CHARGEFILE_NONE, 2, 3, 0});
 }
 
 /* "at 6 op 1", "at 12 op 2", "at 15 op 3", "at 18 op 0" */
@@ -57,10 +58,10 @@ static void job_e_cut(void)
 {
     run_job_e(7, 24 + 8 * 4);
     expect_header(4, 0, 2, 0);
-    expect_answer(0, (answer){CHARGEFILE_NOT_YET, 6, 0});
-    expect_answer(1, (answer){CHARGEFILE_NOT_YET, 1, 0});
-    expect_answer(2, (answer){CHARGEFILE_NOT_YET, 0, 0});
-    expect_answer(3, (answer){CHARGEFILE_NOT_YET, 0, 0});
+    expect_answer(0, (answer){CHARGEFILE_NOT_YET, 0, 6, 0});
+    expect_answer(1, (answer){CHARGEFILE_NOT_YET, 0, 1, 0});
+    expect_answer(2, (answer){CHARGEFILE_NOT_YET, 0, 0, 0});
+    expect_answer(3, (answer){CHARGEFILE_NOT_YET, 0, 0, 0});
 }
 
 /* (H) "no turns: the charge file is the one that came in" */
@@ -95,7 +96,7 @@ static void insert_3_needs_two_pages(void)
     make_split_twice(&wanted, 2);
     put_page(&wanted, 2, 2, 2, moved, 2);
     put_page(&wanted, 3, 2, 3, stored, 1);
-    expect_on_full_page(3, CHARGEFILE_INSERT, 3, (answer){CHARGEFILE_STORED, 4 + 2 + 2 + 3, 30});
+    expect_on_full_page(3, CHARGEFILE_INSERT, 3, (answer){CHARGEFILE_STORED, 3, 4 + 2 + 2 + 3, 30});
     expect_line(0, 7, 0);
     expect_file(&wanted);
 }
@@ -103,22 +104,22 @@ static void insert_3_needs_two_pages(void)
 /* (D), (E2), (F) and a delete of a call that is not there: one turn after (a) to (d) unlocks. */
 static void no_page(void)
 {
-    expect_on_full_page(2, CHARGEFILE_INSERT, 3, (answer){CHARGEFILE_NO_PAGE, 5, 0});
+    expect_on_full_page(2, CHARGEFILE_INSERT, 3, (answer){CHARGEFILE_NO_PAGE, 1, 5, 0});
 }
 
 static void no_depth(void)
 {
-    expect_on_full_page(2, CHARGEFILE_INSERT, 9, (answer){CHARGEFILE_NO_DEPTH, 5, 0});
+    expect_on_full_page(2, CHARGEFILE_INSERT, 9, (answer){CHARGEFILE_NO_DEPTH, 1, 5, 0});
 }
 
 static void already_there(void)
 {
-    expect_on_full_page(2, CHARGEFILE_INSERT, 1, (answer){CHARGEFILE_ALREADY_THERE, 5, 10});
+    expect_on_full_page(2, CHARGEFILE_INSERT, 1, (answer){CHARGEFILE_ALREADY_THERE, 1, 5, 10});
 }
 
 static void absent(void)
 {
-    expect_on_full_page(2, CHARGEFILE_DELETE, 9, (answer){CHARGEFILE_ABSENT, 5, 0});
+    expect_on_full_page(2, CHARGEFILE_DELETE, 9, (answer){CHARGEFILE_ABSENT, 1, 5, 0});
 }
 
 void result_tests(void)

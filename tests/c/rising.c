@@ -93,7 +93,7 @@ static void expect_change(const change *of)
     unsigned code = of->kind == CHARGEFILE_INSERT ? CHARGEFILE_STORED : CHARGEFILE_DELETED;
     make_one(c, &of->before, of->kind, of->call);
     expect_run(&j, 0);
-    expect_answer(0, (answer){code, 6, charge_of(of->call)});
+    expect_answer(0, (answer){code, 1, 6, charge_of(of->call)});
     expect_line(0, 4, 0);
     make_job(&wanted, file);
     put_list(&wanted, 1, 0, 0, &of->after);
@@ -107,8 +107,10 @@ static void expect_split(const split *of)
     counts c = {1, 3, 2, 1, 1, 20}, file = {1, 3, 2, 2, 0, 0};
     make_one(c, &of->before, CHARGEFILE_INSERT, of->call);
     expect_run(&j, 0);
-    expect_answer(0, (answer){CHARGEFILE_STORED, 4 + 1 + 1 + 3, charge_of(of->call)});
-    expect_line(0, of->call % 2 == 1 ? 5 : 7, 0);
+    int odd = of->call % 2 == 1;
+    unsigned turns = 4 + 1 + 1 + 3;
+    expect_answer(0, (answer){CHARGEFILE_STORED, odd ? 2 : 1, turns, charge_of(of->call)});
+    expect_line(0, odd ? 5 : 7, 0);
     make_job(&wanted, file);
     put_list(&wanted, 1, 1, 0, &of->even);
     put_list(&wanted, 2, 1, 1, &of->odd);
@@ -123,7 +125,7 @@ static void two_splits(void)
     counts c = {2, 3, 3, 1, 1, 20};
     make_one(c, &before, CHARGEFILE_INSERT, 1);
     expect_run(&j, 0);
-    expect_answer(0, (answer){CHARGEFILE_STORED, 4 + 2 + 2 + 3, charge_of(1)});
+    expect_answer(0, (answer){CHARGEFILE_STORED, 2, 4 + 2 + 2 + 3, charge_of(1)});
     expect_line(0, 6, 0);
     make_split_twice(&wanted, 3);
     put_list(&wanted, 2, 2, 2, &moved);
@@ -139,7 +141,7 @@ static void expect_code(unsigned kind, uint32_t call, unsigned code, unsigned tu
     int there = call % 10 == 0;
     make_one(c, &held, kind, call);
     expect_run(&j, 0);
-    expect_answer(0, (answer){code, turns, there ? charge_of(call) : 0});
+    expect_answer(0, (answer){code, 1, turns, there ? charge_of(call) : 0});
 }
 
 /* Before, between and behind the calls of the page, and at each of them. */
@@ -182,7 +184,7 @@ static void one_after_another(void)
     for (unsigned i = 0; i < 7; i++) {
         int inserts = done[i].kind == CHARGEFILE_INSERT;
         unsigned code = inserts ? CHARGEFILE_STORED : CHARGEFILE_DELETED;
-        expect_answer(i, (answer){code, 6, charge_of(done[i].call)});
+        expect_answer(i, (answer){code, 1, 6, charge_of(done[i].call)});
     }
     make_job(&wanted, file);
     put_list(&wanted, 1, 0, 0, &left);

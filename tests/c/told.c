@@ -29,9 +29,10 @@ void expect_answer(unsigned operation, answer wanted)
     unsigned before = 8 * operation;
     unsigned at = section(CHARGEFILE_RESULT_AT_ANSWERS_OFFSET, before + 8) + before;
     EXPECT_EQUAL(set.result[at], wanted.code);
-    EXPECT_EQUAL(set.result[at + 1], 0);
+    EXPECT_EQUAL(set.result[at + 1], wanted.page > 0 ? wanted.page - 1 : 0);
     EXPECT_EQUAL(two_at(at + 2), wanted.turns);
     EXPECT_EQUAL(four_at(at + 4), wanted.charge);
+    EXPECT_EQUAL(chargefile_answer_page(set.result + at), wanted.page);
 }
 
 void expect_line(unsigned line, unsigned moment, unsigned operation)

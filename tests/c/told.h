@@ -5,12 +5,14 @@
 
 #include "lent.h"
 
+/* The page by its number, from 1; 0 where there is no answer yet. */
 typedef struct answer {
-    unsigned code, turns;
+    unsigned code, page, turns;
     uint32_t charge;
 } answer;
 
-/* Answer `operation` of the result, its spare byte zero. */
+/* Answer `operation` of the result. Its second byte is "the page number less one"; "For code 0 it
+ * stays zero." */
 void expect_answer(unsigned operation, answer wanted);
 
 void expect_line(unsigned line, unsigned moment, unsigned operation);

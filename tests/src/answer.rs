@@ -50,11 +50,15 @@ impl Code {
     }
 }
 
-/// An operation's answer: code, "turns used without waiting", and a charge
-/// that is "the record's for 1, 3, 4 and 5, else 0".
+/// An operation's answer: code, the page behind it, "turns used without
+/// waiting", and a charge that is "the record's for 1, 3, 4 and 5, else 0".
 #[derive(Clone, Copy, Debug, PartialEq, Eq)]
 pub struct Answer {
     pub code: Code,
+    /// "The page last read by a search, the page that holds the call at a
+    /// stored insert's moment, the page read in turn (d) by the rest"; none
+    /// for code 0.
+    pub page: Option<usize>,
     pub turns: usize,
     pub charge: u32,
 }

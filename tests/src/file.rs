@@ -14,6 +14,14 @@ pub struct ChargeFile {
     pub pages: Vec<Page>,
 }
 
+/// What looking into a page for a call came to: which page it was, and the
+/// call's record, if it is there.
+#[derive(Clone, Copy, Debug, PartialEq, Eq)]
+pub struct Looked {
+    pub page: usize,
+    pub record: Option<Record>,
+}
+
 impl ChargeFile {
     /// A file with one empty page of depth 0 that every entry names.
     pub fn empty(depth: u32, capacity: usize, page_count: usize) -> ChargeFile {
@@ -34,6 +42,15 @@ impl ChargeFile {
     /// The same page, to be changed.
     pub fn page_mut(&mut self, number: usize) -> &mut Page {
         &mut self.pages[number - 1]
+    }
+
+    /// Looks into a page for a call. "Looking into a page must ... report which
+    /// page it was to every caller."
+    pub fn look(&self, number: usize, call: u32) -> Looked {
+        Looked {
+            page: number,
+            record: self.page(number).find(call),
+        }
     }
 
     /// The entry a call belongs to.

@@ -10,6 +10,8 @@
 //!
 //! - [`check`]: the refusal of a job by its bytes, every row that is about them alone, or `None`;
 //! - [`run`]: the result bytes, or the refusal, by every row;
+//! - [`run::result_bytes`]: the result bytes of a job that is sound;
+//! - [`result::answer_bytes`]: the bytes of its answers;
 //! - [`report`]: what `chargelog` prints;
 //! - [`tidy`]: the bytes of a tidied charge file, or the refusal;
 //! - [`page::Page`] and [`split`]: find, add, remove and split a page;

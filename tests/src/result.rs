@@ -1,10 +1,10 @@
 //! The result and its bytes ("The result").
 
-use crate::answer::{Answer, Line, CODES};
+use crate::answer::{Answer, Code, Line, CODES};
 use crate::little_endian::{four_at, push_four, push_offset, push_two, two_at};
 
-/// "Header, 24 bytes: version 1": the result's own.
-pub const RESULT_VERSION: usize = 1;
+/// "The result's version is 2."
+pub const RESULT_VERSION: usize = 2;
 /// "Header, 24 bytes".
 pub const RESULT_HEADER_LENGTH: usize = 24;
 /// "Answer, 8 bytes".
@@ -39,7 +39,7 @@ pub fn to_bytes(contents: &Contents) -> Vec<u8> {
     push_offset(&mut bytes, charge_file.map_or(0, |_| log_end));
     push_offset(&mut bytes, log_end + charge_file.map_or(0, <[u8]>::len));
     for answer in &contents.answers {
-        bytes.extend([answer.code.number() as u8, 0]);
+        bytes.extend([answer.code.number() as u8, page_byte(answer)]);
         push_two(&mut bytes, answer.turns);
         push_four(&mut bytes, answer.charge);
     }
@@ -49,6 +49,20 @@ pub fn to_bytes(contents: &Contents) -> Vec<u8> {
     }
     bytes.extend(charge_file.unwrap_or_default());
     bytes
+}
+
+/// The byte behind the code: "the page number less one ... For code 0 it stays
+/// zero."
+fn page_byte(answer: &Answer) -> u8 {
+    let less_one = |page: usize| u8::try_from(page - 1).expect("pages are 1 to 256");
+    answer.page.map_or(0, less_one)
+}
+
+/// The eight bytes of each answer, as they stand in the result of so many
+/// operations.
+pub fn answer_bytes(result: &[u8], operations: usize) -> impl Iterator<Item = &[u8]> {
+    let end = RESULT_HEADER_LENGTH + ANSWER_LENGTH * operations;
+    result[RESULT_HEADER_LENGTH..end].chunks(ANSWER_LENGTH)
 }
 
 /// Reads a result, and says what is wrong with one that is not laid out as
@@ -73,6 +87,7 @@ pub fn from_bytes(bytes: &[u8]) -> Result<Contents, String> {
     if under_way > 0 && bytes.len() != log_end {
         return wrong("bytes after the log, but no charge file");
     }
+    let answers: Result<_, _> = answer_bytes(bytes, m).map(answer).collect();
     let rows = bytes[log_offset..log_end].chunks(LINE_LENGTH);
     let line = |row: &[u8]| Line {
         moment: two_at(row, 0),
@@ -80,23 +95,25 @@ pub fn from_bytes(bytes: &[u8]) -> Result<Contents, String> {
     };
     Ok(Contents {
         under_way,
-        answers: answers(&bytes[RESULT_HEADER_LENGTH..log_offset])?,
+        answers: answers?,
         log: rows.map(line).collect(),
         charge_file: (under_way == 0).then(|| bytes[log_end..].to_vec()),
     })
 }
 
-fn answers(bytes: &[u8]) -> Result<Vec<Answer>, String> {
-    let answer = |row: &[u8]| {
-        let code = CODES.get(usize::from(row[0])).copied();
-        match (code, row[1]) {
-            (Some(code), 0) => Ok(Answer {
-                code,
-                turns: two_at(row, 2),
-                charge: four_at(row, 4),
-            }),
-            _ => Err(format!("result: answer {row:?}")),
-        }
+fn answer(bytes: &[u8]) -> Result<Answer, String> {
+    let wrong = || format!("result: answer {bytes:?}");
+    let code = CODES.get(usize::from(bytes[0])).copied();
+    let code = code.ok_or_else(wrong)?;
+    let page = match (code, usize::from(bytes[1])) {
+        (Code::NotYet, 0) => None,
+        (Code::NotYet, _) => return Err(wrong()),
+        (_, less_one) => Some(less_one + 1),
     };
-    bytes.chunks(ANSWER_LENGTH).map(answer).collect()
+    Ok(Answer {
+        code,
+        page,
+        turns: two_at(bytes, 2),
+        charge: four_at(bytes, 4),
+    })
 }

@@ -1,7 +1,7 @@
 //! A whole run: the turn list dealt out one turn at a time ("Turns").
 
 use crate::answer::{Answer, Code, Line};
-use crate::check::check_all;
+use crate::check::{check_all, least_lent};
 use crate::job::Job;
 use crate::result::{self, Contents};
 use crate::shared::Shared;
@@ -29,6 +29,15 @@ pub fn run(job: &[u8], result_len: usize, rows_len: usize, memory_len: usize) ->
     let result = result::to_bytes(&run.contents());
     assert!(result.len() <= result_len, "the result has room");
     Outcome::Done { result }
+}
+
+/// The result's bytes of a sound job that is lent no more than it must be.
+pub fn result_bytes(job: &[u8]) -> Vec<u8> {
+    let (room, rows, memory) = least_lent(job);
+    match run(job, room, rows, memory) {
+        Outcome::Done { result } => result,
+        refused => panic!("a sound job with enough lent is run: {refused:?}"),
+    }
 }
 
 /// A run under way. It may be dealt more turns than a job can carry; that is
@@ -123,11 +132,12 @@ impl Run {
     /// The answers as they stand: code 0 until the moment is known.
     pub fn answers(&self) -> Vec<Answer> {
         let answer = |row: &Row| {
-            let settled = row.progress.settled;
+            let told = row.progress.settled.map(|settled| settled.told);
             Answer {
-                code: settled.map_or(Code::NotYet, |s| s.code),
+                code: told.map_or(Code::NotYet, |told| told.code),
+                page: told.map(|told| told.page),
                 turns: row.used,
-                charge: settled.map_or(0, |s| s.charge),
+                charge: told.map_or(0, |told| told.charge),
             }
         };
         self.rows.iter().map(answer).collect()

@@ -3,6 +3,7 @@
 use std::collections::VecDeque;
 
 use crate::answer::Code;
+use crate::file::Looked;
 use crate::job::{Kind, Operation};
 use crate::page::{Page, Record};
 use crate::shared::Shared;
@@ -51,7 +52,7 @@ pub enum Stage {
 #[derive(Clone, Debug, PartialEq, Eq)]
 pub struct Step {
     action: Action,
-    settles: Option<(Code, u32)>,
+    settles: Option<Told>,
 }
 
 #[derive(Clone, Debug, PartialEq, Eq)]
@@ -69,19 +70,27 @@ impl Action {
         }
     }
 
-    fn settling(self, when: bool, code: Code, charge: u32) -> Step {
+    fn settling(self, when: bool, told: Told) -> Step {
         Step {
             action: self,
-            settles: when.then_some((code, charge)),
+            settles: when.then_some(told),
         }
     }
+}
+
+/// What an operation's answer tells: the code, the page behind it, and the
+/// charge.
+#[derive(Clone, Copy, Debug, PartialEq, Eq)]
+pub struct Told {
+    pub code: Code,
+    pub page: usize,
+    pub charge: u32,
 }
 
 /// An operation's answer once its moment is known.
 #[derive(Clone, Copy, Debug, PartialEq, Eq)]
 pub struct Settled {
-    pub code: Code,
-    pub charge: u32,
+    pub told: Told,
     pub moment: usize,
 }
 
@@ -146,13 +155,9 @@ impl Progress {
         Turned::Did
     }
 
-    fn settle(&mut self, code: Code, charge: u32, moment: usize) {
+    fn settle(&mut self, told: Told, moment: usize) {
         assert!(self.settled.is_none(), "an operation has one moment");
-        self.settled = Some(Settled {
-            code,
-            charge,
-            moment,
-        });
+        self.settled = Some(Settled { told, moment });
     }
 
     /// The page its entry names now.
@@ -170,15 +175,17 @@ impl Progress {
     /// "Read that page (found: finished)". A found search's moment is "its
     /// page reading, or, where its entry no longer names that page, the turn
     /// on which the entry was changed from it": the record it read had been
-    /// moved by then, and that turn is the last on which it stood there.
+    /// moved by then, and that turn is the last on which it stood there. The
+    /// page told is that which it read, "the page last read by a search".
     fn search_page(&mut self, page: usize, shared: &mut Shared, now: usize) -> Stage {
         let call = self.operation.call;
-        let Some(record) = shared.file.page(page).find(call) else {
+        let Looked { page, record } = shared.file.look(page, call);
+        let Some(record) = record else {
             return Stage::ReadEntryAgain { page, read_on: now };
         };
         let named = self.named(shared);
         let stale = named != page;
-        let gone = stale && shared.file.page(named).find(call) != Some(record);
+        let gone = stale && shared.file.look(named, call).record != Some(record);
         shared.tally.stale_found += usize::from(stale);
         shared.tally.stale_found_gone += usize::from(gone);
         let moment = if stale {
@@ -186,7 +193,12 @@ impl Progress {
         } else {
             now
         };
-        self.settle(Code::Found, record.charge, moment);
+        let found = Told {
+            code: Code::Found,
+            page,
+            charge: record.charge,
+        };
+        self.settle(found, moment);
         Stage::Finished
     }
 
@@ -199,7 +211,12 @@ impl Progress {
             shared.tally.search_retries += 1;
             return Stage::ReadPage(named);
         }
-        self.settle(Code::None, 0, read_on);
+        let none = Told {
+            code: Code::None,
+            page,
+            charge: 0,
+        };
+        self.settle(none, read_on);
         Stage::Finished
     }
 
@@ -216,28 +233,35 @@ impl Progress {
 
     /// "(d) read the page and decide": everything still to do, in order. The
     /// code of "already there" and the other refusals is set at once; "its
-    /// duplicate answer keeps the lock. Here it is released."
+    /// duplicate answer keeps the lock. Here it is released." Whatever is told
+    /// of this page has "the page read in turn (d)".
     fn decide(&mut self, number: usize, shared: &mut Shared, now: usize) -> VecDeque<Step> {
-        let page = shared.file.page(number).clone();
         let Operation { kind, call, charge } = self.operation;
-        let steps = match (kind, page.find(call)) {
+        let looked = shared.file.look(number, call);
+        let page = shared.file.page(number).clone();
+        let told = |code, charge| Told {
+            code,
+            page: looked.page,
+            charge,
+        };
+        let steps = match (kind, looked.record) {
             (Kind::Search, _) => unreachable!("a search locks nothing"),
-            (Kind::Insert, Some(there)) => Err((Code::AlreadyThere, there.charge)),
+            (Kind::Insert, Some(there)) => Err(told(Code::AlreadyThere, there.charge)),
             (Kind::Insert, None) if page.records.len() < shared.file.capacity => {
                 let written = page.add(Record { call, charge });
-                Ok(rewrite(number, written, Code::Stored, charge))
+                Ok(rewrite(number, written, told(Code::Stored, charge)))
             }
             (Kind::Insert, None) => self
                 .decide_split(number, &page, shared)
-                .map_err(|code| (code, 0)),
-            (Kind::Delete, None) => Err((Code::Absent, 0)),
+                .map_err(|code| told(code, 0)),
+            (Kind::Delete, None) => Err(told(Code::Absent, 0)),
             (Kind::Delete, Some(there)) => {
                 let written = page.remove(call);
-                Ok(rewrite(number, written, Code::Deleted, there.charge))
+                Ok(rewrite(number, written, told(Code::Deleted, there.charge)))
             }
         };
-        steps.unwrap_or_else(|(code, charge)| {
-            self.settle(code, charge, now);
+        steps.unwrap_or_else(|told| {
+            self.settle(told, now);
             VecDeque::from([Action::Unlock(vec![number]).step()])
         })
     }
@@ -277,9 +301,15 @@ impl Progress {
     /// "Then one turn for each new page written, one for each changed entry by
     /// rising index, one unlocking all new pages, one writing the old page,
     /// one unlocking it." The moment is "the writing of the page the call is
-    /// in if that is the old page, else the writing of the call's own entry".
+    /// in if that is the old page, else the writing of the call's own entry";
+    /// either way the page told is the one the call is in, which its own entry
+    /// then names.
     fn split_steps(&self, number: usize, split: Split, own_entry: usize) -> VecDeque<Step> {
-        let charge = self.operation.charge;
+        let stored = Told {
+            code: Code::Stored,
+            page: split.home,
+            charge: self.operation.charge,
+        };
         let at_home = split.home == number;
         let taken: Vec<usize> = split.new.iter().map(|(new, _)| *new).collect();
         let mut steps = VecDeque::new();
@@ -288,14 +318,10 @@ impl Progress {
         }
         for (entry, new) in split.changed {
             let own = !at_home && entry == own_entry;
-            steps.push_back(Action::WriteEntry(entry, new).settling(own, Code::Stored, charge));
+            steps.push_back(Action::WriteEntry(entry, new).settling(own, stored));
         }
         steps.push_back(Action::Unlock(taken).step());
-        steps.push_back(Action::WritePage(number, split.old).settling(
-            at_home,
-            Code::Stored,
-            charge,
-        ));
+        steps.push_back(Action::WritePage(number, split.old).settling(at_home, stored));
         steps.push_back(Action::Unlock(vec![number]).step());
         steps
     }
@@ -311,8 +337,8 @@ impl Progress {
                 }
             }
         }
-        if let Some((code, charge)) = step.settles {
-            self.settle(code, charge, now);
+        if let Some(told) = step.settles {
+            self.settle(told, now);
         }
         if steps.is_empty() {
             Stage::Finished
@@ -323,9 +349,9 @@ impl Progress {
 }
 
 /// "Otherwise a turn writes the page and a turn unlocks it, finished."
-fn rewrite(number: usize, page: Page, code: Code, charge: u32) -> VecDeque<Step> {
+fn rewrite(number: usize, page: Page, told: Told) -> VecDeque<Step> {
     VecDeque::from([
-        Action::WritePage(number, page).settling(true, code, charge),
+        Action::WritePage(number, page).settling(true, told),
         Action::Unlock(vec![number]).step(),
     ])
 }

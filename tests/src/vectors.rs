@@ -8,9 +8,10 @@
 //! text.
 //!
 //! - Of a job: `job`, and `print`, what `chargelog` prints, which lends enough
-//!   itself. Those in the folder `printed` came with the text alone; those in
-//!   `earlier` came with an earlier request, whose number they have, and still
-//!   hold.
+//!   itself. Those in the folder `earlier` came with an earlier request, whose
+//!   number they have, and still hold whole. Of those in `printed` the text is
+//!   all that holds: they came with nothing else, or with an earlier request,
+//!   whose number they have, and a result of another version.
 //! - Of a file to be tidied: `file`, and `depth`, the wanted depth as text.
 
 use std::collections::{BTreeMap, BTreeSet};
@@ -23,7 +24,7 @@ use crate::check::WORKING_MEMORY;
 use crate::run::Outcome;
 
 /// How many jobs there are: a test of no vectors would always pass.
-const JOBS: usize = 455;
+const JOBS: usize = 478;
 
 /// How many files to be tidied.
 const TO_BE_TIDIED: usize = 157;
@@ -47,7 +48,8 @@ pub struct Vector {
     /// What is lent: bytes of the result buffer, rows, and bytes of other
     /// working memory.
     pub room: (usize, usize, usize),
-    /// What a run with that much lent comes to, if that is stored.
+    /// What a run with that much lent comes to, if that is stored; else what
+    /// is lent is enough, and only the text tells.
     pub wanted: Option<Outcome>,
     /// What `chargelog` prints.
     pub print: Vec<u8>,
@@ -163,8 +165,8 @@ fn read_to_be_tidied(name: &str) -> ToBeTidied {
     }
 }
 
-/// A result, or a refusal, but not both; neither only where the text is stored
-/// alone.
+/// A result, or a refusal, but not both; neither only where the text alone is
+/// wanted.
 fn wanted(name: &str) -> Option<Outcome> {
     match (bytes(name, "out"), numbers(name, "refused").as_deref()) {
         (Some(result), None) => Some(Outcome::Done { result }),

@@ -5,10 +5,10 @@ use std::iter::Peekable;
 use std::path::Path;
 use std::str::Chars;
 
-use chargefile_tests::check::{result_room, WORKING_MEMORY};
 use chargefile_tests::damage::NUMBERS;
 use chargefile_tests::examples::{examples, Example};
-use chargefile_tests::{check, report, run, tidy, Outcome};
+use chargefile_tests::run::result_bytes;
+use chargefile_tests::{check, report, tidy, Outcome};
 
 fn document() -> String {
     let path = Path::new(env!("CARGO_MANIFEST_DIR")).join("../docs/FORMAT.md");
@@ -56,11 +56,7 @@ fn the_dump_of_job_e() {
 
 #[test]
 fn the_dump_of_its_result() {
-    let counts = chargefile_tests::job::Counts::read(&job_e());
-    let lent = (result_room(&counts), counts.operations, WORKING_MEMORY);
-    let Outcome::Done { result } = run(&job_e(), lent.0, lent.1, lent.2) else {
-        panic!("job E is run");
-    };
+    let result = result_bytes(&job_e());
     assert_eq!(dump(&document(), "### Its result"), result);
 }
 

@@ -14,11 +14,10 @@ use states::{among_all, calls_to_look_for, every_page, Seen};
 const JOBS: u64 = 6_000;
 const PAGES: u64 = 20_000;
 const DEPTH: u32 = 8;
-const MISSING: u64 = 1 << 32;
 
 #[link(name = "probe", kind = "static")]
 extern "C" {
-    fn probe_find(page: *const u8, len: usize, call: u32) -> u64;
+    fn probe_find(page: *const u8, len: usize, number: u16, call: u32) -> u64;
     fn probe_add(page: *mut u8, len: usize, call: u32, charge: u32);
     fn probe_remove(page: *mut u8, len: usize, call: u32);
     fn probe_split_count(page: *const u8, len: usize, call: u32) -> usize;
@@ -32,10 +31,19 @@ fn sound(page: &[u8]) {
     assert!(4 + 8 * usize::from(page[1]) <= page.len());
 }
 
-fn find(page: &[u8], call: u32) -> u64 {
+/// What looking into the page of this number says: the number of the page, and the charge if the call is there.
+fn find(page: &[u8], number: u16, call: u32) -> (u64, Option<u64>) {
+    const MISSING: u64 = 1 << 32;
     sound(page);
     // SAFETY: `sound` tests what the contract asks
-    unsafe { probe_find(page.as_ptr(), page.len(), call) }
+    let said = unsafe { probe_find(page.as_ptr(), page.len(), number, call) };
+    let charge = said % (2 * MISSING);
+    (said / (2 * MISSING), (charge != MISSING).then_some(charge))
+}
+
+/// What it should say, where this is what the page has of the call.
+fn said_of(number: u16, record: Option<Record>) -> (u64, Option<u64>) {
+    (u64::from(number), record.map(|r| u64::from(r.charge)))
 }
 
 fn add(page: &mut [u8], r: Record) {
@@ -116,8 +124,9 @@ fn find_add_and_remove() {
         assert_eq!(bytes.len(), page_length(capacity));
         let others = [(); 4].map(|()| missing(random, &page));
         for call in page.calls().into_iter().chain(others) {
-            let wanted = page.find(call).map_or(MISSING, |r| u64::from(r.charge));
-            assert_eq!(find(&bytes, call), wanted);
+            let number = random.word() as u16;
+            let wanted = said_of(number, page.find(call));
+            assert_eq!(find(&bytes, number, call), wanted);
             let removed = inside(&bytes, |part| remove(part, call));
             assert_eq!(removed, page.remove(call).to_bytes(capacity));
         }
@@ -141,12 +150,14 @@ fn find_in_every_state() {
     let (mut found, mut none) = (0, 0);
     let whole = few_seeds(JOBS, |seed| {
         let job = make::small_job(&mut Random::new(seed, "library looking"));
-        every_page(&job, |Seen { page, .. }| {
+        every_page(&job, |Seen { number, page, .. }| {
             let bytes = page.to_bytes(job.file.capacity);
+            let number = *number as u16;
             for call in calls_to_look_for(&job, page) {
                 let there = among_all(page, call);
-                let wanted = there.map_or(MISSING, |r| u64::from(r.charge));
-                assert_eq!(find(&bytes, call), wanted, "{call} in {page:?}");
+                let wanted = said_of(number, there);
+                let says = find(&bytes, number, call);
+                assert_eq!(says, wanted, "{call} in {page:?}");
                 found += usize::from(there.is_some());
                 none += usize::from(there.is_none());
             }

@@ -10,7 +10,7 @@ use chargefile_tests::little_endian::four_at;
 use chargefile_tests::make;
 use chargefile_tests::plain_list::PlainList;
 use chargefile_tests::random::Random;
-use chargefile_tests::result;
+use chargefile_tests::result::{self, answer_bytes};
 use chargefile_tests::seeds::{each_seed, few_seeds};
 use chargefile_tests::tally::Tally;
 use chargefile_tests::vectors;
@@ -63,7 +63,7 @@ fn random_jobs() {
             panic!("a job that meets no row is run");
         };
         files += usize::from(result[16..20] != [0; 4]);
-        for answer in result[24..].chunks(8).take(job.operations.len()) {
+        for answer in answer_bytes(&result, job.operations.len()) {
             codes[usize::from(answer[0])] += 1;
         }
     });

@@ -2,12 +2,12 @@
 //! from its words and not from stored jobs.
 
 use chargefile_tests::answer::Code;
-use chargefile_tests::check::{result_room, WORKING_MEMORY};
 use chargefile_tests::file::ChargeFile;
 use chargefile_tests::job::{Job, Kind, Operation};
 use chargefile_tests::key::pseudo_key;
 use chargefile_tests::page::{Page, Record};
-use chargefile_tests::result::{self, Contents};
+use chargefile_tests::result::{self, answer_bytes, Contents};
+use chargefile_tests::run::result_bytes;
 use chargefile_tests::split::new_pages_needed;
 use chargefile_tests::{check, report, run, Outcome};
 
@@ -66,17 +66,20 @@ fn text(job: &Job) -> String {
 }
 
 fn done(job: &Job) -> Contents {
-    let (room, rows) = (result_room(&job.counts()), job.operations.len());
-    match run(&job.to_bytes(), room, rows, WORKING_MEMORY) {
-        Outcome::Done { result } => result::from_bytes(&result).unwrap(),
-        refused => panic!("{refused:?}"),
-    }
+    result::from_bytes(&result_bytes(&job.to_bytes())).unwrap()
 }
 
 fn only_answer(job: &Job) -> (Code, u32) {
     let answers = done(job).answers;
     assert_eq!(answers.len(), 1);
     (answers[0].code, answers[0].charge)
+}
+
+/// The byte behind each answer's code, as it stands in the result.
+fn page_bytes(job: &Job) -> Vec<u8> {
+    let result = result_bytes(&job.to_bytes());
+    let answers = answer_bytes(&result, job.operations.len());
+    answers.map(|answer| answer[1]).collect()
 }
 
 fn page(depth: u32, pattern: u32, records: &[(u32, u32)]) -> Page {
@@ -100,6 +103,7 @@ fn b_job_e() {
     let job = job_e();
     assert_eq!(job.to_bytes().len(), 156);
     assert_eq!(text(&job), JOB_E_TEXT);
+    assert_eq!(page_bytes(&job), [0, 0, 1, 1]);
 }
 
 #[test]
@@ -114,6 +118,7 @@ fn c_insert_3_needs_two_pages() {
     assert_eq!(*after.page(2), page(2, 2, &[(1, 10), (5, 20)]));
     assert_eq!(*after.page(3), page(2, 3, &[(3, 30)]));
     assert_eq!(after.directory, [1, 1, 2, 3]);
+    assert_eq!(page_bytes(&job), [2]);
 }
 
 #[test]
@@ -122,12 +127,14 @@ fn d_with_two_pages_no_page() {
     assert_eq!(only_answer(&job), (Code::NoPage, 0));
     let after = done(&job).charge_file.unwrap();
     assert_eq!(after, Job::charge_file(&job.file));
+    assert_eq!(page_bytes(&job), [0]);
 }
 
 #[test]
 fn e2_insert_9_no_depth() {
     let job = insert_into_full(2, 9);
     assert_eq!(only_answer(&job), (Code::NoDepth, 0));
+    assert_eq!(page_bytes(&job), [0]);
     assert_eq!(
         only_answer(&insert_into_full(256, 9)),
         (Code::NoDepth, 0),
@@ -139,6 +146,7 @@ fn e2_insert_9_no_depth() {
 fn f_insert_1_already_there_though_full() {
     let job = insert_into_full(2, 1);
     assert_eq!(only_answer(&job), (Code::AlreadyThere, 10));
+    assert_eq!(page_bytes(&job), [0]);
 }
 
 #[test]
@@ -152,6 +160,7 @@ fn g_job_e_cut_to_seven_turns() {
     assert!(contents.answers.iter().all(|a| a.code == Code::NotYet));
     let turns: Vec<usize> = contents.answers.iter().map(|a| a.turns).collect();
     assert_eq!(turns, [6, 1, 0, 0]);
+    assert_eq!(page_bytes(&job), [0; 4]);
 }
 
 #[test]
@@ -161,6 +170,7 @@ fn h_no_turns_gives_the_file_that_came_in() {
     let contents = done(&job);
     assert_eq!(contents.under_way, 0);
     assert_eq!(contents.charge_file, Some(Job::charge_file(&job.file)));
+    assert_eq!(page_bytes(&job), [0; 4]);
 }
 
 #[test]
@@ -212,12 +222,12 @@ fn job_e_result_bytes() {
     let Outcome::Done { result } = run(&job.to_bytes(), 148, 4, 24_576) else {
         panic!("job E is run");
     };
-    let mut wanted: Vec<u8> = vec![1, 0, 4, 0, 4, 0, 0, 0];
+    let mut wanted: Vec<u8> = vec![2, 0, 4, 0, 4, 0, 0, 0];
     wanted.extend([24, 0, 0, 0, 56, 0, 0, 0, 72, 0, 0, 0, 148, 0, 0, 0]);
     wanted.extend([3, 0, 9, 0, 90, 0, 0, 0]);
     wanted.extend([1, 0, 2, 0, 70, 0, 0, 0]);
-    wanted.extend([5, 0, 6, 0, 70, 0, 0, 0]);
-    wanted.extend([2, 0, 3, 0, 0, 0, 0, 0]);
+    wanted.extend([5, 1, 6, 0, 70, 0, 0, 0]);
+    wanted.extend([2, 1, 3, 0, 0, 0, 0, 0]);
     wanted.extend([6, 0, 1, 0, 12, 0, 2, 0, 15, 0, 3, 0, 18, 0, 0, 0]);
     wanted.extend([1, 0, 1, 2, 2, 0, 2, 0, 0, 0, 0, 0, 32, 0, 0, 0]);
     wanted.extend([36, 0, 0, 0, 76, 0, 0, 0, 76, 0, 0, 0, 76, 0, 0, 0]);

@@ -2,19 +2,18 @@
 //! time is kept, nothing gets stuck, and the charge file is the file.
 
 use chargefile_tests::answer::Code;
-use chargefile_tests::check::{result_room, WORKING_MEMORY};
+use chargefile_tests::check;
 use chargefile_tests::explain::explain;
 use chargefile_tests::job::{Job, Kind};
 use chargefile_tests::make;
 use chargefile_tests::plain_list::PlainList;
 use chargefile_tests::random::Random;
 use chargefile_tests::result::{self, Contents};
-use chargefile_tests::run::Run;
+use chargefile_tests::run::{result_bytes, Run};
 use chargefile_tests::seeds::each_seed;
 use chargefile_tests::shared::Tally;
 use chargefile_tests::tally::all_seen;
 use chargefile_tests::turn::Turned;
-use chargefile_tests::{check, run, Outcome};
 
 const JOBS: u64 = 24_000;
 
@@ -112,7 +111,7 @@ fn one_job(seed: u64, seen: &mut Seen) {
     assert_eq!(Job::from_bytes(&bytes), job);
 
     let mut under_way = deal_watched(&job);
-    let contents = result_of(&job, &bytes);
+    let contents = result_of(&bytes);
     assert_eq!(contents, under_way.contents(), "the result is the run's");
     seen.add(&job, &under_way, &contents);
 
@@ -124,13 +123,9 @@ fn one_job(seed: u64, seen: &mut Seen) {
     no_turns_change_nothing(&job, &bytes);
 }
 
-/// The result by the public call, lent no more than it must be.
-fn result_of(job: &Job, bytes: &[u8]) -> Contents {
-    let room = result_room(&job.counts());
-    let Outcome::Done { result } = run(bytes, room, job.operations.len(), WORKING_MEMORY) else {
-        panic!("a sound job with enough lent is run");
-    };
-    result::from_bytes(&result).unwrap()
+/// The result by the public call.
+fn result_of(job: &[u8]) -> Contents {
+    result::from_bytes(&result_bytes(job)).unwrap()
 }
 
 /// Deals the turns and watches each: what a turn came to, and that someone
@@ -207,7 +202,7 @@ fn charge_file_is_the_file(contents: &Contents, run: &Run) {
     let again = Job::from_bytes(charge_file);
     assert_eq!(again.file, run.shared.file);
     assert!(again.operations.is_empty() && again.turns.is_empty());
-    let itself = result_of(&again, charge_file).charge_file;
+    let itself = result_of(charge_file).charge_file;
     assert_eq!(itself.as_ref(), Some(charge_file));
 }
 
@@ -236,7 +231,7 @@ fn no_turns_change_nothing(job: &Job, bytes: &[u8]) {
         turns: Vec::new(),
         ..job.clone()
     };
-    let contents = result_of(&still, &still.to_bytes());
+    let contents = result_of(&still.to_bytes());
     let charge_file = contents.charge_file.expect("nothing is begun");
     let end = job.counts().layout().operations;
     assert_eq!(charge_file.len(), end);

@@ -8,6 +8,7 @@ use chargefile_tests::job::{Job, Kind, Operation};
 use chargefile_tests::make;
 use chargefile_tests::page::Record;
 use chargefile_tests::random::Random;
+use chargefile_tests::result::answer_bytes;
 use chargefile_tests::seeds::{each_seed, few_seeds};
 use chargefile_tests::tally::Tally;
 use chargefile_tests::vectors;
@@ -23,12 +24,13 @@ const OTHER_ROW: Row = Row {
     moment: 0x5A5A,
     used: 0x5A5A,
     code: 0x5A,
+    told: 0x5A,
     page: 0x5A,
     home: 0x5A,
     base: 0x5A,
     count: 0x5A,
     next: 0x5A,
-    spare: 0x5A5A,
+    spare: 0x5A,
 };
 
 /// What a run is lent, filled with a pattern beforehand.
@@ -110,7 +112,7 @@ fn random_jobs() {
         else {
             panic!("a job that meets no row is run");
         };
-        for answer in result[24..].chunks(8).take(job.operations.len()) {
+        for answer in answer_bytes(&result, job.operations.len()) {
             codes[usize::from(answer[0])] += 1;
         }
         jobs += 1;

@@ -25,6 +25,13 @@ fn every_vector_is_run_or_refused() {
     for vector in all() {
         let (result, rows, memory) = vector.room;
         let outcome = run(&vector.job, result, rows, memory);
+        let told = match outcome {
+            Outcome::Done { .. } => None,
+            Outcome::Refused { number, place } => Some((number, place)),
+        };
+        if vector.wanted.is_none() && told != vector.checked() {
+            wrong.push(format!("{}: {told:?}, and not as printed", vector.name));
+        }
         if let Some(wanted) = vector.wanted.filter(|wanted| *wanted != outcome) {
             wrong.push(format!("{}: {outcome:?}, wanted: {wanted:?}", vector.name));
         }
@@ -95,10 +102,11 @@ fn the_vectors_are_all_there() {
     let wanted = [
         ("00-base", 176),
         ("01-page-faults", 61),
-        ("10-rising", 45),
+        ("03-page-byte", 23),
+        ("10-rising", 20),
         ("12-tidy", 157),
-        ("earlier", 69),
-        ("printed", 104),
+        ("earlier", 56),
+        ("printed", 142),
     ];
     let wanted = wanted.map(|(folder, vectors)| (folder.to_string(), vectors));
     assert_eq!(folders, BTreeMap::from(wanted));

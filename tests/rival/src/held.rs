@@ -83,7 +83,7 @@ impl<const N: usize> Shared<'_, '_, N> {
     /// Nothing is to be written, and the moment is this turn: the next unlocks.
     #[inline(always)]
     fn give_up(&mut self, operation: &mut Operation, code: u8) {
-        self.settle(operation, code, operation.now);
+        self.settle(operation, code, operation.row.page, operation.now);
         *operation.stage = UNLOCK;
     }
 
@@ -101,7 +101,7 @@ impl<const N: usize> Shared<'_, '_, N> {
             page::insert(page, operation.record());
             STORED
         };
-        self.settle(operation, code, operation.now);
+        self.settle(operation, code, operation.row.page, operation.now);
         *operation.stage = UNLOCK;
         false
     }

@@ -10,6 +10,8 @@ pub struct Row {
     pub moment: u16,
     pub used: u16,
     pub code: u8,
+    /// The page told with the code; 0 before.
+    pub told: u8,
     /// The page it reads, waits for or holds.
     pub page: u8,
     /// The call's own entry.
@@ -21,7 +23,7 @@ pub struct Row {
     /// The record to delete; in a split, the new page or the entry to write.
     pub next: u8,
     /// Never read: a row with no gap in it is all zero bytes where it is not begun, and so the lent rows are cleared faster.
-    pub spare: u16,
+    pub spare: u8,
 }
 
 /// What an operation does on its next turn, as the definitions name it.

@@ -4,6 +4,7 @@ use crate::header::Header;
 use crate::operation::Row;
 use crate::tables::File;
 
+pub const RESULT_VERSION: usize = 2;
 pub const RESULT_HEADER_LENGTH: usize = 24;
 pub const ANSWER_LENGTH: usize = 8;
 pub const LINE_LENGTH: usize = 4;
@@ -25,10 +26,12 @@ pub fn room(header: &Header) -> usize {
     RESULT_HEADER_LENGTH + each * header.operations + header.operations_at()
 }
 
+/// An answer tells its page less one, and that is the page's number here.
 #[inline(always)]
 pub fn write_answers(answers: &mut [u8], rows: &[Row]) {
     for (answer, row) in answers.as_chunks_mut().0.iter_mut().zip(rows) {
-        let number = row.code as u64 | (row.used as u64) << 16 | (row.charge as u64) << 32;
+        let (code, told) = (row.code as u64, row.told as u64);
+        let number = code | told << 8 | (row.used as u64) << 16 | (row.charge as u64) << 32;
         *answer = number.to_le_bytes();
     }
 }
@@ -87,7 +90,7 @@ impl Contents {
     #[inline(always)]
     pub fn write_header(&self, result: &mut [u8]) {
         let head: &mut [u8; RESULT_HEADER_LENGTH] = result.first_chunk_mut().unwrap();
-        let counts = [1, self.operations, self.lines, self.under_way];
+        let counts = [RESULT_VERSION, self.operations, self.lines, self.under_way];
         for (k, count) in counts.into_iter().enumerate() {
             head[2 * k..][..2].copy_from_slice(&(count as u16).to_le_bytes());
         }

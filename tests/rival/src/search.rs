@@ -37,7 +37,7 @@ impl<const N: usize> Shared<'_, '_, N> {
         if self.file.directory[home] != number {
             moment = u16::from_le_bytes(self.changes[home << 3 | (page[0] & 7) as usize]);
         }
-        self.settle(operation, FOUND, moment);
+        self.settle(operation, FOUND, number, moment);
         operation.shut();
         true
     }
@@ -47,7 +47,7 @@ impl<const N: usize> Shared<'_, '_, N> {
     pub fn reread(&mut self, operation: &mut Operation) -> bool {
         let named = self.file.directory[operation.row.home as usize];
         if named == operation.row.page {
-            self.settle(operation, NONE, operation.row.moment);
+            self.settle(operation, NONE, named, operation.row.moment);
             operation.shut();
             return true;
         }

@@ -46,11 +46,12 @@ impl<const N: usize> Shared<'_, '_, N> {
         let splits = self.splits(operation);
         let entry = operation.row.next;
         let new = splits.new_page(reversed(entry, self.depth) as u32);
+        let named = new_number(operation.row, new as u8);
         let change = (entry as usize) << 3 | (splits.from & 7) as usize;
         self.changes[change] = operation.now.to_le_bytes();
-        self.file.directory[entry as usize] = new_number(operation.row, new as u8);
+        self.file.directory[entry as usize] = named;
         if entry == operation.row.home {
-            self.store(operation);
+            self.store(operation, named);
         }
         let pattern = self.file.pages[operation.row.page as usize][2] as u32;
         operation.row.next = entry.wrapping_add(1);
@@ -77,16 +78,16 @@ impl<const N: usize> Shared<'_, '_, N> {
         let page = &mut self.file.pages[operation.row.page as usize];
         *page = splits.old_piece().cut(page, operation.record());
         if operation.row.code == 0 {
-            self.store(operation);
+            self.store(operation, operation.row.page);
         }
         *operation.stage = UNLOCK;
         false
     }
 
-    /// The insert's moment.
+    /// The insert's moment: this page has the call.
     #[inline(always)]
-    fn store(&mut self, operation: &mut Operation) {
+    fn store(&mut self, operation: &mut Operation, page: u8) {
         operation.row.charge = operation.charge();
-        self.settle(operation, STORED, operation.now);
+        self.settle(operation, STORED, page, operation.now);
     }
 }

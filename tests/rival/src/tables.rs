@@ -98,10 +98,11 @@ impl<const N: usize> File<'_, N> {
 }
 
 impl<const N: usize> Shared<'_, '_, N> {
-    /// The operation's moment is known: its code is set, and its line joins the log.
+    /// The operation's moment is known: its code is set, with the page behind it, and its line joins the log.
     #[inline(always)]
-    pub fn settle(&mut self, operation: &mut Operation, code: u8, moment: u16) {
+    pub fn settle(&mut self, operation: &mut Operation, code: u8, page: u8, moment: u16) {
         operation.row.code = code;
+        operation.row.told = page;
         operation.row.moment = moment;
         self.log.add(moment, operation.number);
     }

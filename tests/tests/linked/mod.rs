@@ -11,13 +11,14 @@ use chargefile_tests::Outcome;
 #[derive(Clone, Copy, PartialEq, Eq)]
 pub struct Row {
     pub charge: u32,
-    pub stage: u16,
+    pub stage: u8,
+    pub code: u8,
     pub page: u16,
     pub base: u16,
     pub count: u16,
     pub next: u16,
     pub used: u16,
-    pub code: u16,
+    pub told: u16,
     pub moment: u16,
 }
 
@@ -25,13 +26,14 @@ pub struct Row {
 const fn row_of(number: u16) -> Row {
     Row {
         charge: number as u32,
-        stage: number,
+        stage: number as u8,
+        code: number as u8,
         page: number,
         base: number,
         count: number,
         next: number,
         used: number,
-        code: number,
+        told: number,
         moment: number,
     }
 }

@@ -6,8 +6,9 @@ use chargefile_tests::job::Job;
 use chargefile_tests::page::{Page, Record};
 use chargefile_tests::run::Run;
 
-/// A page as it stands, what it was before if a turn has changed it, and whether an entry names it.
+/// A page as it stands, its number, what it was before if a turn has changed it, and whether an entry names it.
 pub struct Seen<'a> {
+    pub number: usize,
     pub page: &'a Page,
     pub before: Option<Page>,
     pub named: bool,
@@ -22,8 +23,10 @@ pub fn every_page(job: &Job, mut see: impl FnMut(&Seen)) {
         for (i, page) in file.pages.iter().enumerate() {
             if seen[i].as_ref() != Some(page) {
                 let before = seen[i].replace(page.clone());
-                let named = file.directory.contains(&(i + 1));
+                let number = i + 1;
+                let named = file.directory.contains(&number);
                 see(&Seen {
+                    number,
                     page,
                     before,
                     named,
