@@ -1,4 +1,5 @@
-/* What the programs of this folder share: inputs, outputs, numbers, and how a refusal is told. */
+/* What the programs of this folder share: inputs, outputs, numbers, how a refusal is told, and the
+ * run of a job. */
 #ifndef JOB_FILES_H
 #define JOB_FILES_H
 
@@ -24,14 +25,21 @@ static inline bool was_read(const char *program, FILE *from, const char *name)
     return false;
 }
 
-/* Writes all bytes to standard output; the exit status. */
-static inline int write_out(const char *program, const uint8_t *bytes, size_t length)
+/* Flushes standard output; the exit status. Said on standard error where it cannot be written. */
+static inline int flush_out(const char *program)
 {
-    if (fwrite(bytes, 1, length, stdout) == length && fflush(stdout) == 0) {
+    if (!ferror(stdout) && fflush(stdout) == 0) {
         return 0;
     }
     fprintf(stderr, "%s: standard output cannot be written\n", program);
     return 1;
+}
+
+/* Writes all bytes to standard output; the exit status. */
+static inline int write_out(const char *program, const uint8_t *bytes, size_t length)
+{
+    fwrite(bytes, 1, length, stdout);
+    return flush_out(program);
 }
 
 /* Numbers are little-endian. */
@@ -71,6 +79,20 @@ static inline bool was_accepted(const char *program, chargefile_outcome told)
     fprintf(stderr, "%s: refused %" PRIu64 " %" PRIu64 ": %s\n", program, told.refusal, told.place,
             words[told.refusal]);
     return false;
+}
+
+/* Reads a job from standard input, into JOB_ROOM bytes, and runs it: its result, in
+ * CHARGEFILE_RESULT_MAX bytes. False where that fails, which is said on standard error. */
+static inline bool was_run(const char *program, uint8_t *job, uint8_t *result)
+{
+    static chargefile_row rows[CHARGEFILE_ROWS_MAX];
+    static uint8_t memory[CHARGEFILE_MEMORY_SIZE];
+    size_t length = fread(job, 1, JOB_ROOM, stdin);
+    if (!was_read(program, stdin, "standard input")) {
+        return false;
+    }
+    return was_accepted(program, chargefile_run(job, length, result, CHARGEFILE_RESULT_MAX, rows,
+                                                CHARGEFILE_ROWS_MAX, memory, sizeof memory));
 }
 
 #endif

@@ -13,8 +13,6 @@ static const char NAME[] = "next_month";
 
 static uint8_t job[JOB_ROOM];
 static uint8_t result[CHARGEFILE_RESULT_MAX];
-static chargefile_row rows[CHARGEFILE_ROWS_MAX];
-static uint8_t memory[CHARGEFILE_MEMORY_SIZE];
 
 /* The charge file stands last in a result: from its offset to the total. */
 static int write_charge_file(void)
@@ -36,11 +34,5 @@ int main(int count, char **words)
         fprintf(stderr, "usage: %s < JOB > CHARGE-FILE\n", NAME);
         return 1;
     }
-    size_t length = fread(job, 1, sizeof job, stdin);
-    if (!was_read(NAME, stdin, "standard input")) {
-        return 1;
-    }
-    chargefile_outcome told = chargefile_run(job, length, result, sizeof result, rows,
-                                             CHARGEFILE_ROWS_MAX, memory, sizeof memory);
-    return was_accepted(NAME, told) ? write_charge_file() : 1;
+    return was_run(NAME, job, result) ? write_charge_file() : 1;
 }
