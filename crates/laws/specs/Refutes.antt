@@ -51,7 +51,7 @@ is-and p q = rw (p, q)
 eqb-same : (n : ℕ) → eqb n n ≡ true
 eqb-same n = eq-eqb n n refl
 
-pub clash : {a : Bool} → a ≡ true → not a ≡ true → ⊥
+clash : {a : Bool} → a ≡ true → not a ≡ true → ⊥
 clash {a = true} p q = false≢true q
 clash {a = false} p q = false≢true p
 

@@ -1,9 +1,8 @@
 -- How large the numbers are that the code keeps of each operation, before every turn: the numbers of its stage, its turns used, its moment and
 -- its charge; and the calls and charges of the file.
-use Prim.Native.Nat.{ℕ, zero, suc, _+_, _^_, _<_, _≤_}
+use Prim.Native.Nat.{ℕ, _+_, _^_, _<_, _≤_}
 use mathlib.Core.Path.{_≡_, refl}
 use mathlib.Core.Logic.{by-cases}
-use mathlib.Core.List.{List}
 use mathlib.Core.Option.{Option}
 use native.Mathlib.Omega.{arith}
 use native.Mathlib.Decide.{ℕ-discrete}
@@ -21,17 +20,15 @@ use Rattle.spec.specs.File.{File, pageAt}
 use Rattle.spec.specs.Job.{Job, noOp, maxDepth, maxPages, maxTurns}
 use Rattle.spec.specs.Code.{notYet}
 use Rattle.spec.specs.State.{Row, State, Answer}
-use Rattle.spec.specs.Turn.{turn}
-use Rattle.spec.specs.Run.{codeAfter, chargeAfter, pageAfter, momentAfter, rowOf, stageOf, step, start, run}
+use Rattle.spec.specs.Run.{codeAfter, chargeAfter, pageAfter, momentAfter, rowOf, stageOf, run}
 use Rattle.spec.specs.Proper.{Fit, PageOk, FileOk}
 use Rattle.spec.specs.Claims.{stateAt}
-use Rattle.laws.specs.Turns.Rows.{row-after, step-case, first-row}
-use Rattle.laws.specs.Turns.Good.{Fine, Good}
+use Rattle.laws.specs.Turns.Good.{Fine}
 use Rattle.laws.specs.Turns.Work.{Work}
-use Rattle.laws.specs.Turns.Does.{Own, quiet, sees, seesNone, says, Coherent}
+use Rattle.laws.specs.Turns.Does.{Own, quiet, sees, seesNone, says}
 use Rattle.laws.specs.Turns.Coherent.{i-does}
 use Rattle.laws.specs.Turns.Reads.{Reads}
-use Rattle.laws.specs.Turns.States.{hist, firstTurn, who, stateAt-suc, stateAt-zero, stateAt-now}
+use Rattle.laws.specs.Turns.States.{hist, firstTurn, who, stateAt-now, row-at}
 use Rattle.laws.specs.Turns.Whole.{whole}
 use Rattle.laws.specs.Turns.Sizes.{used-le}
 use Rattle.laws.specs.Turns.Depths.{plan-most}
@@ -120,9 +117,6 @@ pub record Unanswered (r : Row) : Type 0 where
   pub page : r .page ≡ 0
   pub moment : r .moment ≡ 0
 
-abbrev Blanks : State → Type 0
-Blanks s = (i : ℕ) → rowOf s i .code ≡ notYet → Unanswered (rowOf s i)
-
 -- a turn that answers sets a code
 own-blank
     : {s : State} {st : Stage} {op : Op} {a b : Option Rec} {y : ℕ} {z : Answer} (r : Row)
@@ -136,34 +130,21 @@ own-blank r (sees x w k i j e) h u = absurd (omega arith)
 own-blank r (seesNone x t k i j e) h u = absurd (omega arith)
 own-blank r (says n v w y) h u = absurd (omega arith)
 
-step-blanks : (ops : List Op) (s : State) (i : ℕ) → Good ops s → Coherent ops s → Blanks s → Blanks (step ops s i)
-unfolding rowOf
-step-blanks ops s i good coherent h =
-    step-case Blanks ops s i h
-    (λ lt e.
-    row-after s i (turn s (getD ops i noOp) (stageOf s i)) lt (λ j r. r .code ≡ notYet → Unanswered r)
-    (λ z. let w = own-blank (rowOf s i) (i-does ops s i good coherent .own) z (h i) in record { charge = w .0; page = w .1; moment = w .2 })
-    (λ j n. h j))
-
-start-blanks : (f : File) (m : ℕ) → Blanks (start f m)
-unfolding start rowOf
-start-blanks f m i =
-    first-row (λ r. r .code ≡ notYet → Unanswered r) (λ z. record { charge = refl; page = refl; moment = refl })
-    (λ z. record { charge = refl; page = refl; moment = refl }) m i
-
-blanks : (j : Job) → FileOk (j .file) → (t : ℕ) → t ≤ length (j .turns) → Blanks (stateAt j t)
-blanks j ok zero l = rw (stateAt-zero j) (start-blanks _ _)
-blanks j ok (suc t) l =
-    let w = whole j ok t (omega arith) in
-    rw (stateAt-suc j t l) (step-blanks (j .ops) _ (who j t) (w .good) (w .coherent) (blanks j ok t (omega arith)))
-
 module _ (j : Job) (ok : FileOk (j .file)) (i t : ℕ) (l : t ≤ length (j .turns)) where
   -- the row of operation i before turn t
   abbrev row : Row
   row = rowOf (stateAt j t) i
 
   pub unanswered : row .code ≡ notYet → Unanswered row
-  unanswered z = blanks j ok t l i z
+  unanswered =
+      row-at j (λ u k r. r .code ≡ notYet → Unanswered r)
+      (λ k. (λ z. record { charge = refl; page = refl; moment = refl }, λ z. record { charge = refl; page = refl; moment = refl }))
+      (λ u k h. h)
+      (λ u v lt e h z.
+      let w = whole j ok u (omega arith) in
+      let c = own-blank (rowOf (stateAt j u) (who j u)) (i-does (j .ops) (stateAt j u) (who j u) (w .good) (w .coherent) .own) z h in
+      record { charge = c .0; page = c .1; moment = c .2 })
+      t l i
 
   pub answered-moment : (row .code ≡ notYet → ⊥) → row .moment < t
   answered-moment n = omega (arith, whole j ok t l .past .right i n .1, stateAt-now j t l)

@@ -1,6 +1,6 @@
 -- Which page is told with an answer. An answer is given by one turn, and stays; and of that turn it is known what was read, what is held and which
 -- page the call's own entry names.
-use Prim.Native.Nat.{ℕ, zero, suc, _+_, _-_, _<_, _≤_}
+use Prim.Native.Nat.{ℕ, suc, _+_, _-_, _<_, _≤_}
 use mathlib.Core.Path.{_≡_, refl, sym, ap, _∙_, subst}
 use mathlib.Core.Logic.{by-cases}
 use mathlib.Core.Option.{Option, none, some}
@@ -12,40 +12,36 @@ use Rattle.spec.specs.declared.Op.{Op}
 use Rattle.spec.specs.declared.Kind.the-variants.{Search}
 use Rattle.spec.specs.declared.Stage.{Stage}
 use Rattle.spec.specs.declared.Task.the-variants.{Decide, WritePage}
-use Rattle.spec.specs.declared.Stage.the-variants.{NotBegun, ReadPage, Reread, Held, Done}
+use Rattle.spec.specs.declared.Stage.the-variants.{ReadPage, Reread, Held}
 use Rattle.spec.specs.File.{File, pageAt, entryAt, findIn}
 use Rattle.spec.specs.Job.{Job, noOp, maxPages}
 use Rattle.spec.specs.Code.{notYet, found, notFound, stored}
-use Rattle.spec.specs.State.{Row, State, Answer, same, answer, Move}
-use Rattle.spec.specs.Turn.{homeOf, entryOf, recOf, turn}
-use Rattle.spec.specs.Run.{fileAfter, codeAfter, chargeAfter, pageAfter, momentAfter, rowOf, stageOf, act, start, run}
+use Rattle.spec.specs.State.{Row, State, Answer, same, answer}
+use Rattle.spec.specs.Turn.{homeOf, entryOf, recOf}
+use Rattle.spec.specs.Run.{fileAfter, codeAfter, chargeAfter, pageAfter, momentAfter, rowOf, stageOf, act, run}
 use Rattle.spec.specs.Proper.{PageNo, Fit, FileOk}
 use Rattle.spec.specs.Claims.{stateAt, Stood, LastRead}
 use Rattle.laws.specs.Turns.Prefix.{index-in}
 use Rattle.laws.specs.Turns.Records.{find-has}
-use Rattle.laws.specs.Turns.Rows.{rowOf-same, row-after, stage-after, code-row, step-case, first-row}
+use Rattle.laws.specs.Turns.Rows.{rowOf-same, code-row}
 use Rattle.laws.specs.Turns.Good.{Fine}
 use Rattle.laws.specs.Turns.Lookup.{lookup, lookup-at}
-use Rattle.laws.specs.Turns.Says.{Says, isFound, isNone, isStored, isThere, isDeleted, isAbsent, isNoDepth, isNoPage}
+use Rattle.laws.specs.Turns.Says.{says-stored}
 use Rattle.laws.specs.Turns.Does.{From, storing, deciding, writing, Own, sees, seesNone, says, Starts}
 use Rattle.laws.specs.Turns.Coherent.{i-does}
-use Rattle.laws.specs.Turns.States.{who, stateAt-suc, stateAt-end, stateAt-zero, stateAt-now}
+use Rattle.laws.specs.Turns.States.{who, stateAt-end, stateAt-now, moveAt, row-at}
 use Rattle.laws.specs.Turns.Whole.{Whole, whole, end-whole, kept-on}
 use Rattle.laws.specs.Turns.Fields.{unanswered}
 use Rattle.laws.specs.Turns.InUse.{stays-in-use}
 
 module _ (j : Job) where
-  -- the move of operation i, were turn t its own
-  abbrev moveAt : ℕ → ℕ → Move
-  moveAt i t = turn (stateAt j t) (getD (j .ops) i noOp) (stageOf (stateAt j t) i)
-
   -- operation i was given the answer of code k, charge c, page x and moment m on turn t
   record Given (i k c x m t : ℕ) : Type 0 where
     within : t < length (j .turns)
     mine : who j t ≡ i
     row : i < length (stateAt j t .rows)
-    after : stateAt j (suc t) ≡ act (stateAt j t) i (moveAt i t)
-    said : moveAt i t .answer ≡ answer k c x m
+    after : stateAt j (suc t) ≡ act (stateAt j t) i (moveAt j i t)
+    said : moveAt j i t .answer ≡ answer k c x m
 
   -- the answer in the row r of operation i was given before time t
   abbrev Answered : ℕ → ℕ → Row → Type 0
@@ -54,89 +50,30 @@ module _ (j : Job) where
   later : {t i : ℕ} (r : Row) → Answered t i r → Answered (suc t) i r
   later r h n = let g = h n in (g .0, omega (arith, g .1), g .2)
 
-  step-given
-      : (t : ℕ)
-      → t < length (j .turns)
-      → ((i : ℕ) → Answered t i (rowOf (stateAt j t) i))
-      → (i : ℕ)
-      → Answered (suc t) i (rowOf (stateAt j (suc t)) i)
-  unfolding rowOf codeAfter chargeAfter pageAfter momentAfter
-  step-given t l ih =
-      rw (stateAt-suc j t l)
-      (step-case (λ (z : State). stateAt j (suc t) ≡ z → (i : ℕ) → Answered (suc t) i (rowOf z i)) (j .ops) (stateAt j t) (who j t)
-      (λ e i. later (rowOf (stateAt j t) i) (ih i))
-      (λ lt q e.
-      row-after (stateAt j t) (who j t) (moveAt (who j t) t) lt (Answered (suc t)) (own (moveAt (who j t) t .answer) refl lt e)
-      (λ i n. later (rowOf (stateAt j t) i) (ih i)))
-      (stateAt-suc j t l))
-    where
-      own
-          : (a : Answer)
-          → moveAt (who j t) t .answer ≡ a
-          → who j t < length (stateAt j t .rows)
-          → stateAt j (suc t) ≡ act (stateAt j t) (who j t) (moveAt (who j t) t)
-          → (codeAfter a (rowOf (stateAt j t) (who j t)) ≡ notYet → ⊥)
-          → (u : ℕ)
-          × (u < suc t)
-          × Given (who j t) (codeAfter a (rowOf (stateAt j t) (who j t))) (chargeAfter a (rowOf (stateAt j t) (who j t)))
-          (pageAfter a (rowOf (stateAt j t) (who j t))) (momentAfter a (rowOf (stateAt j t) (who j t))) u
-      own same e lt f n = later (rowOf (stateAt j t) (who j t)) (ih (who j t)) n
-      own (answer k c x m) e lt f n = (t, omega arith, record { within = l; mine = refl; row = lt; after = f; said = e })
-
   -- AN ANSWER WAS GIVEN on one of the turns so far
   given : (t : ℕ) → t ≤ length (j .turns) → (i : ℕ) → Answered t i (rowOf (stateAt j t) i)
-  unfolding start rowOf
-  given zero l i = rw (stateAt-zero j) (λ n. absurd (n (none-yet (length (j .ops)))))
+  unfolding codeAfter chargeAfter pageAfter momentAfter
+  given =
+      row-at j Answered (λ i. (λ n. absurd (n refl), λ n. absurd (n refl))) (λ t i h. later (rowOf (stateAt j t) i) h)
+      (λ t l lt e h. own t (rowOf (stateAt j t) (who j t)) (moveAt j (who j t) t .answer) refl l lt e h)
     where
-      none-yet : (m : ℕ) → rowOf (start (j .file) m) i .code ≡ notYet
-      none-yet m = first-row (λ r. r .code ≡ notYet) refl refl m i
-  given (suc t) l i = step-given t l (given t (omega arith)) i
+      own
+          : (t : ℕ) (r : Row) (a : Answer)
+          → moveAt j (who j t) t .answer ≡ a
+          → t < length (j .turns)
+          → who j t < length (stateAt j t .rows)
+          → stateAt j (suc t) ≡ act (stateAt j t) (who j t) (moveAt j (who j t) t)
+          → Answered t (who j t) r
+          → (codeAfter a r ≡ notYet → ⊥)
+          → (u : ℕ) × (u < suc t) × Given (who j t) (codeAfter a r) (chargeAfter a r) (pageAfter a r) (momentAfter a r) u
+      own t r same e l lt f h n = later r h n
+      own t r (answer k c x m) e l lt f h n = (t, omega arith, record { within = l; mine = refl; row = lt; after = f; said = e })
 
--- what each operation has come through to stand where it stands: so at the start, kept as long as it has no turn, and after each turn of its own
-module _ (j : Job) (ok : FileOk (j .file)) (P : ℕ → ℕ → Stage → Type 0)
-    (first : (i : ℕ) → P zero i NotBegun)
-    (none : (i : ℕ) → P zero i Done)
-    (later : (n i : ℕ) → P n i (stageOf (stateAt j n) i) → P (suc n) i (stageOf (stateAt j n) i))
-    (own : (n : ℕ) (to : Stage)
-    → n < length (j .turns)
-    → Starts (stateAt j n) (getD (j .ops) (who j n) noOp) (stageOf (stateAt j n) (who j n)) to
-    → P (suc n) (who j n) to)
-  where
-    step-stages
-        : (n : ℕ)
-        → n < length (j .turns)
-        → ((i : ℕ) → P n i (stageOf (stateAt j n) i))
-        → (i : ℕ)
-        → P (suc n) i (stageOf (stateAt j (suc n)) i)
-    unfolding stageOf rowOf
-    step-stages n l ih =
-        let w = whole j ok n (omega arith) in
-        rw (stateAt-suc j n l)
-        (step-case (λ (z : State). (i : ℕ) → P (suc n) i (stageOf z i)) (j .ops) (stateAt j n) (who j n) (λ i. later n i (ih i))
-        (λ lt q.
-        stage-after (stateAt j n) (who j n) (moveAt j (who j n) n) lt (P (suc n))
-        (own n _ l (i-does (j .ops) (stateAt j n) (who j n) (w .good) (w .coherent) .starts))
-        (λ i z. later n i (ih i))))
-
-    stages : (n : ℕ) → n ≤ length (j .turns) → (i : ℕ) → P n i (stageOf (stateAt j n) i)
-    unfolding start stageOf rowOf
-    stages zero l i = rw (stateAt-zero j) (first-row (λ r. P zero i (r .stage)) (first i) (none i) (length (j .ops)) i)
-    stages (suc n) l i = step-stages n l (stages n (omega arith)) i
-
-module _ (j : Job) where
   -- one that is to write page x has decided on it
-  abbrev Decided : ℕ → ℕ → Stage → Type 0
-  Decided n i st = (x : ℕ) → st ≡ Held x WritePage → (t : ℕ) × Stood j i (Held x Decide) t
+  abbrev Decided : ℕ → Stage → Type 0
+  Decided i st = (x : ℕ) → st ≡ Held x WritePage → (t : ℕ) × Stood j i (Held x Decide) t
 
-  decided : FileOk (j .file) → (n : ℕ) → n ≤ length (j .turns) → (i : ℕ) → Decided n i (stageOf (stateAt j n) i)
-  decided ok =
-      stages j ok Decided (λ i x e. let z : _≡_ {A = ℕ} 0 1 = cc in absurd (omega arith))
-      (λ i x e. let z : _≡_ {A = ℕ} 0 1 = cc in absurd (omega arith))
-      (λ n i h. h)
-      (λ n to l h x e.
-      let from : stageOf (stateAt j n) (who j n) ≡ Held x Decide = rw e at h in (n, record { within = l; named = refl; stage = from }))
-
-  -- one that is to read its entry again has read page x on turn t, did not find its call there, and has read no page since
+  -- one that is to read its entry again has read page x on turn t, did not find its call there, and has read no page since, before time n
   record Missed (n i x t : ℕ) : Type 0 where
     read : Stood j i (ReadPage x) t
     none : findIn (pageAt (stateAt j t .file) x .records) (getD (j .ops) i noOp .call) ≡ none
@@ -161,33 +98,36 @@ module _ (j : Job) where
             absurd (omega arith));
       }
 
-  rereads-own
-      : (n : ℕ) (to : Stage)
-      → n < length (j .turns)
-      → Starts (stateAt j n) (getD (j .ops) (who j n) noOp) (stageOf (stateAt j n) (who j n)) to
-      → Rereads (suc n) (who j n) to
-  rereads-own n to l h x t e =
-      let f : Starts (stateAt j n) (getD (j .ops) (who j n) noOp) (stageOf (stateAt j n) (who j n)) (Reread x t) = rw e at h in
-      let now : t ≡ n = f .1 ∙ stateAt-now j n (omega arith) in
-      rw now (record { read = record { within = l; named = refl; stage = f .0 }; none = f .2; last = λ y u k r. omega arith })
+  module _ (ok : FileOk (j .file)) where
+    -- what the stage says to which a turn leads
+    begins
+        : (t : ℕ)
+        → t < length (j .turns)
+        → (to : Stage)
+        → moveAt j (who j t) t .stage ≡ to
+        → Starts (stateAt j t) (getD (j .ops) (who j t) noOp) (stageOf (stateAt j t) (who j t)) to
+    begins t l to e =
+        let w = whole j ok t (omega arith) in
+        rw e at (i-does (j .ops) (stateAt j t) (who j t) (w .good) (w .coherent) .starts)
 
-  rereads : FileOk (j .file) → (n : ℕ) → n ≤ length (j .turns) → (i : ℕ) → Rereads n i (stageOf (stateAt j n) i)
-  rereads ok =
-      stages j ok Rereads (λ i x t e. let z : _≡_ {A = ℕ} 0 1 = cc in absurd (omega arith))
-      (λ i x t e. let z : _≡_ {A = ℕ} 0 1 = cc in absurd (omega arith))
-      rereads-later
-      rereads-own
+    decided : (t : ℕ) → t ≤ length (j .turns) → (i : ℕ) → Decided i (stageOf (stateAt j t) i)
+    unfolding stageOf
+    decided =
+        row-at j (λ t i r. Decided i (r .stage))
+        (λ i. (λ x e. let z : _≡_ {A = ℕ} 0 1 = cc in absurd (omega arith), λ x e. let z : _≡_ {A = ℕ} 0 1 = cc in absurd (omega arith)))
+        (λ t i h. h)
+        (λ t l lt f h x e. (t, record { within = l; named = refl; stage = begins t l (Held x WritePage) e }))
 
--- "stored" says that the call came to be held
-says-stored : {op : Op} {a b : Option Rec} {k c : ℕ} → Says op a b k c → k ≡ stored → (op .kind ≡ Search → ⊥) × (b ≡ some (recOf op))
-says-stored (isStored i j e) z = (λ w. let n : _≡_ {A = ℕ} 0 1 = cc in omega arith, e)
-says-stored (isFound r i j e) z = absurd (omega arith)
-says-stored (isNone i j e) z = absurd (omega arith)
-says-stored (isThere r i j e) z = absurd (omega arith)
-says-stored (isDeleted r i j e) z = absurd (omega arith)
-says-stored (isAbsent i j e) z = absurd (omega arith)
-says-stored (isNoDepth i j e) z = absurd (omega arith)
-says-stored (isNoPage i j e) z = absurd (omega arith)
+    rereads : (t : ℕ) → t ≤ length (j .turns) → (i : ℕ) → Rereads t i (stageOf (stateAt j t) i)
+    unfolding stageOf
+    rereads =
+        row-at j (λ t i r. Rereads t i (r .stage))
+        (λ i. (λ x t e. let z : _≡_ {A = ℕ} 0 1 = cc in absurd (omega arith), λ x t e. let z : _≡_ {A = ℕ} 0 1 = cc in absurd (omega arith)))
+        rereads-later
+        (λ t l lt f h x u e.
+        let s = begins t l (Reread x u) e in
+        let now : u ≡ t = s .1 ∙ stateAt-now j t (omega arith) in
+        rw now (record { read = record { within = l; named = refl; stage = s .0 }; none = s .2; last = λ y v k r. omega arith }))
 
 -- an answer that is not "stored" is given on turn (d), or behind it
 from-decided : {st : Stage} {k x : ℕ} {A : Type 0} → From st k x → (k ≡ stored → ⊥) → (st ≡ Held x Decide → A) → (st ≡ Held x WritePage → A) → A

@@ -48,3 +48,14 @@ says-change (isDeleted r i j e) = inr (inr refl, λ z. let w : _≡_ {A = ℕ} 0
 says-change (isAbsent i j e) = inl e
 says-change (isNoDepth i j e) = inl e
 says-change (isNoPage i j e) = inl e
+
+-- "stored" says that the call came to be held
+pub says-stored : {op : Op} {a b : Option Rec} {k c : ℕ} → Says op a b k c → k ≡ stored → (op .kind ≡ Search → ⊥) × (b ≡ some (recOf op))
+says-stored (isStored i j e) z = (λ w. let n : _≡_ {A = ℕ} 0 1 = cc in omega arith, e)
+says-stored (isFound r i j e) z = absurd (omega arith)
+says-stored (isNone i j e) z = absurd (omega arith)
+says-stored (isThere r i j e) z = absurd (omega arith)
+says-stored (isDeleted r i j e) z = absurd (omega arith)
+says-stored (isAbsent i j e) z = absurd (omega arith)
+says-stored (isNoDepth i j e) z = absurd (omega arith)
+says-stored (isNoPage i j e) z = absurd (omega arith)

@@ -1,4 +1,5 @@
--- The states of a job, turn by turn: the state before turn t, what the file holds then, whose turn it is, and an operation's first turn.
+-- The states of a job, turn by turn: the state before turn t, what the file holds then, whose turn it is, an operation's first turn, and what is so
+-- of every row.
 use Prim.Native.Nat.{ℕ, zero, suc, _<_, _≤_}
 use mathlib.Core.Path.{_≡_, refl, sym, ap, _∙_}
 use mathlib.Core.List.{List, [], _∷_, _++_}
@@ -14,12 +15,12 @@ use Rattle.spec.specs.declared.Op.{Op}
 use Rattle.spec.specs.Basics.{if}
 use Rattle.spec.specs.File.{File}
 use Rattle.spec.specs.Job.{Job, noOp}
-use Rattle.spec.specs.State.{State}
+use Rattle.spec.specs.State.{Row, State, Move, blank, gone}
 use Rattle.spec.specs.Turn.{turn}
-use Rattle.spec.specs.Run.{rowAfter, rowOf, stageOf, step, start, steps, run}
+use Rattle.spec.specs.Run.{rowAfter, rowOf, stageOf, act, step, start, steps, run}
 use Rattle.spec.specs.Claims.{stateAt}
 use Rattle.laws.specs.Tools.{if-case}
-use Rattle.laws.specs.Turns.Rows.{step-case}
+use Rattle.laws.specs.Turns.Rows.{row-after, step-case, first-row}
 use Rattle.laws.specs.Turns.Lookup.{lookup}
 
 -- what the file holds before turn t; whose turn it is
@@ -89,3 +90,38 @@ stateAt-now j (suc t) l =
 
 pub run-now : (j : Job) → run j .now ≡ length (j .turns)
 run-now j = ap (λ (s : State). s .now) (sym (stateAt-end j)) ∙ stateAt-now j (length (j .turns)) (omega arith)
+
+-- the move of operation i, were turn t its own
+abbrev pub moveAt : Job → ℕ → ℕ → Move
+moveAt j i t = turn (stateAt j t) (getD (j .ops) i noOp) (stageOf (stateAt j t) i)
+
+-- What is so of every row at every time t: of one not begun, of one that the turn leaves as it is, and after a turn of the operation's own.
+module _ (j : Job) (P : ℕ → ℕ → Row → Type 0)
+    (first : (i : ℕ) → P zero i blank × P zero i gone)
+    (later : (t i : ℕ) → P t i (rowOf (stateAt j t) i) → P (suc t) i (rowOf (stateAt j t) i))
+    (own : (t : ℕ)
+    → t < length (j .turns)
+    → who j t < length (stateAt j t .rows)
+    → stateAt j (suc t) ≡ act (stateAt j t) (who j t) (moveAt j (who j t) t)
+    → P t (who j t) (rowOf (stateAt j t) (who j t))
+    → P (suc t) (who j t) (rowAfter (moveAt j (who j t) t) (rowOf (stateAt j t) (who j t))))
+  where
+    step-row
+        : (t : ℕ)
+        → t < length (j .turns)
+        → ((i : ℕ) → P t i (rowOf (stateAt j t) i))
+        → (i : ℕ)
+        → P (suc t) i (rowOf (stateAt j (suc t)) i)
+    unfolding rowOf
+    step-row t l ih =
+        rw (stateAt-suc j t l)
+        (step-case (λ (z : State). stateAt j (suc t) ≡ z → (i : ℕ) → P (suc t) i (rowOf z i)) (j .ops) (stateAt j t) (who j t)
+        (λ e i. later t i (ih i))
+        (λ lt q e.
+        row-after (stateAt j t) (who j t) (moveAt j (who j t) t) lt (P (suc t)) (own t l lt e (ih (who j t))) (λ i n. later t i (ih i)))
+        (stateAt-suc j t l))
+
+    pub row-at : (t : ℕ) → t ≤ length (j .turns) → (i : ℕ) → P t i (rowOf (stateAt j t) i)
+    unfolding start rowOf
+    row-at zero l i = rw (stateAt-zero j) (first-row (P zero i) (first i .0) (first i .1) (length (j .ops)) i)
+    row-at (suc t) l i = step-row t l (row-at t (omega arith)) i
