@@ -23,7 +23,7 @@ fn bad_op(op: &[u8]) -> bool
     if wire::u8_at(op, 1) != 0 {
         return true;
     }
-    if kind == 2 {
+    if kind != 1 {
         return false;
     }
     wire::u32_at(op, 6) != 0

@@ -60,7 +60,7 @@ plain-agree Search op (some r) told l m e h = (refl, refl, h)
 plain-agree Insert op none told l m e h = if-both Agree (λ u. (refl, refl, h)) (λ u. (refl, refl, added-finds l m _ e h))
 plain-agree Insert op (some r) told l m e h = (refl, refl, h)
 plain-agree Delete op none told l m e h = (refl, refl, h)
-plain-agree Delete op (some r) told l m e h = (refl, refl, without-finds l m (op .call) h)
+plain-agree Delete op (some r) told l m e h = if-both Agree (λ u. (refl, refl, without-finds l m (op .call) h)) (λ u. (refl, refl, h))
 
 ask-agree : (ops : List Op) (answers : List Told) (g : Line) (l m : List Rec) → Finds l m → Agree (askLine ops answers g l) (askLine ops answers g m)
 unfolding askLine

@@ -8,19 +8,20 @@ pub mod Owners
 pub mod Grow
 pub mod Count
 pub mod Pages
--- moves, rows and locks; numbers in range, and progress
+-- moves, rows and locks; what an answer says, and what turn (d) comes to; numbers in range, and progress
 pub mod Ranges
 pub mod Rows
 pub mod Locks
 pub mod Plans
 pub mod Good
+pub mod Says
+pub mod Decision
 pub mod Legal
 pub mod Progress
 -- what each turn does to the file and to what it holds
 pub mod Work
 pub mod Lookup
 pub mod SplitPlan
-pub mod Says
 pub mod Does
 pub mod PageTurns
 pub mod SplitTurns

@@ -256,6 +256,13 @@ twoWriters =
     onePage full (op Insert 4 90 ∷ op Insert 1 10 ∷ op Insert 1 11 ∷ [])
     (times-of 6 0 ++ times-of 4 1 ++ times-of 1 0 ++ times-of 4 2 ++ times-of 2 1 ++ times-of 2 2 ++ times-of 2 0)
 
+-- two bursars strike out a call, each only at the charge that they saw: it is there at the charge of the second, who has to wait for the page. Another
+-- call, which is there at charge zero, is not struck out at the charge of the first
+abbrev bursars : Job
+bursars =
+    onePage (call 2 50 ∷ call 3 0 ∷ []) (op Delete 2 60 ∷ op Delete 2 50 ∷ op Delete 3 60 ∷ [])
+    (times-of 2 0 ++ times-of 2 1 ++ times-of 4 0 ++ times-of 5 1 ++ times-of 6 2)
+
 -- job E; job E stopped after 7 turns; an insert told "no page"; one whose call is there; one that goes to a new page; and those above
 abbrev jobs : List Job
 jobs =
@@ -271,6 +278,7 @@ jobs =
     ∷ between
     ∷ twoWriters
     ∷ taken
+    ∷ bursars
     ∷ []
 
 -- each with the result that is read from what is written

@@ -79,6 +79,7 @@ wrongs =
     ∷ wrong jobB (tells (readResult resultB) 2 1) Decides (Names ∷ [])  -- the page that the entry named before, for a delete
     ∷ wrong jobRest (tells (readResult resultRest) 0 1) Decides (Names ∷ [])  -- another page, for an insert whose call is there
     ∷ wrong jobRest (tells (readResult resultRest) 3 1) Decides (Names ∷ [])  -- and for one that got no page
+    ∷ wrong jobRest (tells (readResult resultRest) 4 1) Decides (Names ∷ [])  -- and for a delete at another charge
     ∷ wrong jobB (readResult (set (set (set (set resultB 25 1) 33 1) 41 2) 49 2)) InUse  -- the numbers not less one
     (Finds ∷ Lacks ∷ Holds ∷ Decides ∷ Names ∷ [])
     ∷ []

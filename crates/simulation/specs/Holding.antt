@@ -18,7 +18,7 @@ use Rattle.spec.specs.declared.Task.the-variants.{Verify, Release, Decide, Writ
 use Rattle.spec.specs.declared.Stage.{Stage}
 use Rattle.spec.specs.declared.Stage.the-variants.{Lock, Held, Done}
 use Rattle.spec.specs.Basics.{if}
-use Rattle.spec.specs.Code.{alreadyThere, absent, noDepth, noPage}
+use Rattle.spec.specs.Code.{alreadyThere, absent, noDepth, noPage, differs}
 use Rattle.spec.specs.File.{Page, pageAt, entryAt, isNot, without, foundOf}
 use Rattle.spec.specs.Job.{noOp}
 use Rattle.spec.specs.Split.{digit, added, allShare, splitCount}
@@ -26,7 +26,7 @@ use Rattle.spec.specs.State.{State, Move, goLock}
 use Rattle.spec.specs.Turn.{homeOf, recOf, planOf, newCount, cleared, placed, decided, struck, written, verified, heldTurn, turn}
 use Rattle.spec.specs.Run.{rowOf}
 use Rattle.spec.specs.Proper.{PageNo, In}
-use Rattle.laws.specs.Tools.{if-both, filter-le}
+use Rattle.laws.specs.Tools.{if-both, if-ap, filter-le}
 use Rattle.laws.specs.Turns.CallsRise.{put-length}
 use Rattle.laws.specs.Turns.Prefix.{fit-32}
 use Rattle.laws.specs.Turns.Shared.{allShare-least}
@@ -35,7 +35,7 @@ use Rattle.laws.specs.Turns.Work.{WorkTask}
 use Rattle.memory.specs.Memory.{lockIn, withLocks, turnIn}
 use Rattle.turn.specs.declared.Row.{Row}
 use Rattle.turn.specs.Rows.{rowImage, moved}
-use Rattle.turn.specs.Steps.{Out, out, memLock, memVerified, memRefused, memTaken, memFull, memPlaced, memDecided, memStruck, memWritten, memHeld, memTurn}
+use Rattle.turn.specs.Steps.{Out, out, memLock, memVerified, memRefused, memTaken, memFull, memPlaced, memAtCharge, memDecided, memStruck, memWritten, memHeld, memTurn}
 use Rattle.simulation.specs.Shown.{shapeOf, Shown}
 use Rattle.simulation.specs.RowBack.{told}
 use Rattle.simulation.specs.Steady.{Steady}
@@ -109,13 +109,15 @@ module _ (ops : List Op) (s : State) (i : ℕ) (w : List ℕ) (st : Steady ops s
       → PageNo (s .file) x
       → entryAt (s .file) (homeOf (s .file) op) ≡ x
       → Does (decided s op k (foundOf x o)) (memDecided (shapeOf (s .file)) op (s .now) r w k (foundOf x o))
-  unfolding decided memDecided memRefused foundOf
+  unfolding decided memDecided memAtCharge memRefused foundOf
   on-decide x Search none n e = goes-on ops s i w st h _
   on-decide x Search (some c) n e = goes-on ops s i w st h _
   on-decide x Insert none n e = rw (page-used ops s w st h x n) (on-placed x n e)
   on-decide x Insert (some c) n e = tells ops s i w st h _ alreadyThere (c .charge) x (s .now)
   on-decide x Delete none n e = tells ops s i w st h _ absent 0 x (s .now)
-  on-decide x Delete (some c) n e = goes-on ops s i w st h _
+  on-decide x Delete (some c) n e =
+      rw (← if-ap (λ (a : Row). out a w))
+      (if-both Does (λ a. goes-on ops s i w st h _) (λ a. tells ops s i w st h _ differs (c .charge) x (s .now)))
 
   -- a delete's answer, by what it finds
   struck-is : (x : ℕ) (o : Option Rec) → memStruck (s .now) r (foundOf x o) ≡ told (moved r (Held x Unlock)) (struck (s .now) (foundOf x o))

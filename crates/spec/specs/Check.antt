@@ -147,9 +147,10 @@ recordFaultIn h x p = firstOf (recordFault (pagePlace h x) p) 0 (p .records)
 unfoldable pub wrongRecord : List ℕ → Option ℕ
 wrongRecord b = let h = headerOf b in firstOf (recordFaultIn h) 1 (pagesInUse (fileOf b))
 
--- 9 operation: "kind not 1 to 3, spare byte or charge not zero where it must be". "charge (4; zero unless an insert)". The operation has the bytes o
+-- 9 operation: "kind not 1 to 3, spare byte or charge not zero where it must be". Zero it must be in a search alone: "charge (4; zero unless an
+-- insert)", but a delete with another "deletes only where the file's charge is equal". The operation has the bytes o
 unfoldable pub badOp : List ℕ → Bool
-badOp o = outside 1 3 (byte o 0) || not (eqb (byte o 1) 0) || (not (eqb (byte o 0) 2) && not (eqb (long o 6) 0))
+badOp o = outside 1 3 (byte o 0) || not (eqb (byte o 1) 0) || (eqb (byte o 0) 1 && not (eqb (long o 6) 0))
 
 unfoldable pub opFault : Header → ℕ → List ℕ → Option ℕ
 opFault h i o = when (badOp o) (opPlace h i)

@@ -1,7 +1,7 @@
 -- "The result": the codes of answers, by name.
 use Prim.Native.Nat.{ℕ}
 
--- "0 not yet, 1 found, 2 none, 3 stored, 4 already there, 5 deleted, 6 absent, 7 no depth, 8 no page"
+-- "0 not yet, 1 found, 2 none, 3 stored, 4 already there, 5 deleted, 6 absent, 7 no depth, 8 no page"; "9, "differs""
 abbrev pub notYet : ℕ
 notYet = 0
 
@@ -28,3 +28,6 @@ noDepth = 7
 
 abbrev pub noPage : ℕ
 noPage = 8
+
+abbrev pub differs : ℕ
+differs = 9

@@ -1,6 +1,7 @@
--- "The job, byte by byte": limits, header, where each section stands, and what a job is.
+-- "The job, byte by byte": limits, header, where each section stands, what a job is, and where a delete strikes out.
 use Prim.Native.Nat.{ℕ, _+_, _-_, _*_, _^_}
 use mathlib.Core.List.{List, []}
+use mathlib.Core.Bool.{Bool, _||_}
 use lib.Dec.{eqb}
 use Rattle.spec.specs.declared.Kind.{Kind}
 use Rattle.spec.specs.declared.Kind.the-variants.{Search, Insert, Delete}
@@ -52,6 +53,11 @@ fileJob f = record { file = f; ops = []; turns = [] }
 -- what stands where there is no operation
 abbrev pub noOp : Op
 noOp = record { kind = Search; call = 0; charge = 0 }
+
+-- a delete with the charge `asked` strikes out a call that is there at the charge `held`: it "deletes only where the file's charge is equal", but
+-- "with charge zero strikes out as ever"
+unfoldable pub strikes : ℕ → ℕ → Bool
+strikes asked held = eqb asked 0 || eqb asked held
 
 -- "kind (1 search, 2 insert, 3 delete)"
 unfoldable pub kindNumber : Kind → ℕ

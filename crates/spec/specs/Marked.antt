@@ -1,5 +1,5 @@
 -- The ten marked items of "Jobs worked through" as one table, from job bytes to result bytes, refusal or printed text. One proof covers its rows.
--- A second table is for calls that rise, and a third for the pages told with answers.
+-- A second table is for calls that rise, a third for the pages told with answers, and a fourth for deletes at a charge.
 use Prim.Native.Nat.{ℕ}
 use mathlib.Core.Path.{_≡_, refl}
 use mathlib.Core.List.{List, [], _∷_, _++_, map}
@@ -17,12 +17,12 @@ use Rattle.spec.specs.Check.{Lent}
 use Rattle.spec.specs.Outcome.{resultBytes, outcome, bufferAfter}
 use Rattle.spec.specs.Report.{printed}
 use Rattle.spec.specs.Claims.{fed}
-use Rattle.spec.specs.Worked.{jobB, resultB, textB, jobLong, jobLate, resultLate, jobRest, resultRest, jobC, resultC, jobInsert, resultD, jobG, resultG, jobH, resultH, jobI, resultI, jobJ, resultJ, jobRising, resultRising, jobPut, resultPut, jobTaken, resultTaken}
+use Rattle.spec.specs.Worked.{jobB, resultB, textB, jobLong, jobLate, resultLate, jobRest, resultRest, jobC, resultC, jobInsert, resultD, jobG, resultG, jobH, resultH, jobI, resultI, jobJ, resultJ, jobRising, resultRising, jobPut, resultPut, jobTaken, resultTaken, jobStrike, resultStruck, resultLeft, jobBursars, textBursars}
 use Rattle.spec.specs.Opened.{opened}
 
--- what is lent: a result buffer of 1,000 bytes that are all 7, 4 rows, and the least working memory
+-- what is lent: a result buffer of 1,000 bytes that are all 7, 5 rows, and the least working memory
 abbrev lent : Lent
-lent = record { result = 1000; rows = 4; work = 24576 }
+lent = record { result = 1000; rows = 5; work = 24576 }
 
 abbrev buffer : List ℕ
 buffer = replicate 1000 7
@@ -122,6 +122,27 @@ told = (job jobLate ⇒ ran resultLate) ∷ (job jobRest ⇒ ran resultRest) ∷
 pages-told : map (λ (m : Item). says (m .asked)) told ≡ map (λ (m : Item). m .paper) told
 unfolding opened
 pages-told = refl
+
+-- "deletes only where the file's charge is equal. Where the call is there at another charge, the answer is 9, "differs", with the file's charge .. A
+-- delete with charge zero strikes out as ever": equal, another, zero asked, zero held, both zero; the highest charge, and one that differs from it
+-- in a byte; a call that is missing. Then two bursars at one call: what is printed, and the plain list
+abbrev deletes : List Item
+deletes =
+    (job (jobStrike 250 5 250) ⇒ ran (resultStruck 250))
+    ∷ (job (jobStrike 250 5 180) ⇒ ran (resultLeft 250 9 250))
+    ∷ (job (jobStrike 250 5 0) ⇒ ran (resultStruck 250))
+    ∷ (job (jobStrike 0 5 180) ⇒ ran (resultLeft 0 9 0))
+    ∷ (job (jobStrike 0 5 0) ⇒ ran (resultStruck 0))
+    ∷ (job (jobStrike 0xffffffff 5 0xffffffff) ⇒ ran (resultStruck 0xffffffff))
+    ∷ (job (jobStrike 0xffffffff 5 0x00ffffff) ⇒ ran (resultLeft 0xffffffff 9 0xffffffff))
+    ∷ (job (jobStrike 250 6 250) ⇒ ran (resultLeft 250 6 0))
+    ∷ (print jobBursars ⇒ bytes textBursars)
+    ∷ (list jobBursars ⇒ holds (record { replies = reply 9 250 ∷ reply 5 250 ∷ []; list = [] }) [])
+    ∷ []
+
+at-charge : map (λ (m : Item). says (m .asked)) deletes ≡ map (λ (m : Item). m .paper) deletes
+unfolding opened fed
+at-charge = refl
 
 -- a list of some thousand turns computes too
 long-list : says (job jobLong) ≡ ran resultB

@@ -11,9 +11,9 @@ use Rattle.spec.specs.declared.Op.{Op}
 use Rattle.spec.specs.declared.Kind.{Kind}
 use Rattle.spec.specs.declared.Kind.the-variants.{Search, Insert, Delete}
 use Rattle.spec.specs.Basics.{if}
-use Rattle.spec.specs.Code.{found, notFound, stored, alreadyThere, deleted, absent, noDepth, noPage}
+use Rattle.spec.specs.Code.{found, notFound, stored, alreadyThere, deleted, absent, noDepth, noPage, differs}
 use Rattle.spec.specs.File.{findIn, without}
-use Rattle.spec.specs.Job.{noOp}
+use Rattle.spec.specs.Job.{noOp, strikes}
 use Rattle.spec.specs.Result.{Told, Line}
 
 -- "no call twice": of each record in a list, the rest has no record with its call
@@ -40,7 +40,8 @@ hint k = if (turnedDown k) k 0
 
 -- "Search: call there, 1 and its charge; else 2 and 0."
 -- "Insert: call there, 4 and its charge. Missing and told 7 or 8: that code and 0. Otherwise 3 and the insert's charge, and the call goes in with it."
--- "Delete: call there, 5 and its charge, and the call goes out; else 6 and 0."
+-- "Delete: call there, 5 and its charge, and the call goes out; else 6 and 0." "Where the call is there at another charge, the answer is 9, "differs",
+-- with the file's charge .. and nothing changes"
 -- (the third argument is what the list has of the operation's call)
 unfoldable pub plainStep : Kind → Op → Option Rec → ℕ → List Rec → Plain
 plainStep Search op (some r) told l = plain found (r .charge) l
@@ -49,7 +50,8 @@ plainStep Insert op (some r) told l = plain alreadyThere (r .charge) l
 plainStep Insert op none told l =
     if (turnedDown told) (plain told 0 l)
     (plain stored (op .charge) (l ++ (record { call = op .call; charge = op .charge } ∷ [])))
-plainStep Delete op (some r) told l = plain deleted (r .charge) (without l (op .call))
+plainStep Delete op (some r) told l =
+    if (strikes (op .charge) (r .charge)) (plain deleted (r .charge) (without l (op .call))) (plain differs (r .charge) l)
 plainStep Delete op none told l = plain absent 0 l
 
 abbrev pub nothingTold : Told

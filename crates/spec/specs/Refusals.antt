@@ -147,9 +147,11 @@ edits =
     ∷ edit 96 0 9 96  -- kind
     ∷ edit 96 4 9 96
     ∷ edit 97 1 9 96  -- spare byte
+    ∷ other (set (set base 106 3) 107 1) 9 106
     ∷ edit 102 1 9 96  -- a search's charge
     ∷ edit 105 1 9 96
     ∷ edit 106 1 9 106
+    ∷ fine enough (set base 106 3)  -- a delete's charge
     ∷ edit 116 2 10 116  -- m
     ∷ edit 118 2 10 118
     ∷ edit 119 1 10 118

@@ -34,7 +34,7 @@ kindWord Search = text "search"
 kindWord Insert = text "insert"
 kindWord Delete = text "delete"
 
--- "0 not yet, 1 found, 2 none, 3 stored, 4 already there, 5 deleted, 6 absent, 7 no depth, 8 no page"
+-- "0 not yet, 1 found, 2 none, 3 stored, 4 already there, 5 deleted, 6 absent, 7 no depth, 8 no page"; "9, "differs""
 abbrev pub codeWords : List (List ℕ)
 codeWords =
     text "not yet"
@@ -46,6 +46,7 @@ codeWords =
     ∷ text "absent"
     ∷ text "no depth"
     ∷ text "no page"
+    ∷ text "differs"
     ∷ []
 
 unfoldable pub codeWord : ℕ → List ℕ

@@ -22,7 +22,7 @@ pub record Told : Type 0 where
   pub used : ℕ
   pub charge : ℕ
 
--- "Charge is the record's for 1, 3, 4 and 5, else 0": the row's charge and page are set with its code, and are 0 before
+-- "Charge is the record's for 1, 3, 4 and 5, else 0", but for 9 "the file's charge": the row's charge and page are set with its code, and are 0 before
 unfoldable pub toldOf : Row → Told
 toldOf r = record { code = r .code; page = r .page; used = r .used; charge = r .charge }
 

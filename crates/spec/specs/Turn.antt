@@ -17,9 +17,10 @@ use Rattle.spec.specs.declared.Part.the-variants.{WriteNew, WriteEntry, 
 use Rattle.spec.specs.declared.Stage.{Stage}
 use Rattle.spec.specs.declared.Stage.the-variants.{NotBegun, ReadPage, Reread, Lock, Held, Split, Done}
 use Rattle.spec.specs.Basics.{if}
-use Rattle.spec.specs.Code.{found, notFound, stored, alreadyThere, deleted, absent, noDepth, noPage}
+use Rattle.spec.specs.Code.{found, notFound, stored, alreadyThere, deleted, absent, noDepth, noPage, differs}
 use Rattle.spec.specs.Key.{index}
 use Rattle.spec.specs.File.{Page, File, zeroPage, pageAt, entryAt, lookInto, without}
+use Rattle.spec.specs.Job.{strikes}
 use Rattle.spec.specs.Split.{Grown, added, grow, allShare, newOwner, nextEntry}
 use Rattle.spec.specs.State.{Change, State, Answer, same, answer, Move, go, goLock, goPage, goEntry}
 
@@ -77,7 +78,8 @@ reread s op x t =
     let y : ℕ = entryOf (s .file) op in
     if (eqb y x) (go Done (answer notFound 0 x t)) (go (ReadPage y) same)
 
--- ""Already there", "absent", "no depth" and "no page": the next turn unlocks, finished"; "codes 4, 6, 7, 8, turn (d)"; "the page read in turn (d)"
+-- ""Already there", "absent", "no depth" and "no page": the next turn unlocks, finished"; "codes 4, 6, 7, 8, turn (d)"; "differs": "its moment is turn
+-- (d), the next turn unlocks, and nothing changes"; "the page read in turn (d)"
 abbrev pub refused : ℕ → ℕ → ℕ → ℕ → Move
 refused x code charge now = go (Held x Unlock) (answer code charge x now)
 
@@ -92,14 +94,15 @@ placed s op x p =
     (if (ltb (s .file .limit) (s .file .used + n)) (refused x noPage 0 (s .now))
     (goLock (Split x (s .file .used) n (WriteNew 1)) (suc (s .file .used)) n true n)))
 
--- "(d) read the page and decide". (No search comes here, nor to `written`.)
+-- "(d) read the page and decide". "Where the call is there at another charge, the answer is 9, "differs", with the file's charge". (No search comes
+-- here, nor to `written`.)
 unfoldable pub decided : State → Op → Kind → Found → Move
 decided s op Search (Missing x) = go (Held x Unlock) same
 decided s op Search (Charge x v) = go (Held x Unlock) same
 decided s op Insert (Missing x) = placed s op x (pageAt (s .file) x)
 decided s op Insert (Charge x v) = refused x alreadyThere v (s .now)
 decided s op Delete (Missing x) = refused x absent 0 (s .now)
-decided s op Delete (Charge x v) = go (Held x WritePage) same
+decided s op Delete (Charge x v) = if (strikes (op .charge) v) (go (Held x WritePage) same) (refused x differs v (s .now))
 
 -- the answer of a delete that writes its page, by what it finds there: the call, as on turn (d), since nobody else writes a page that is held; and
 -- so its page is "the page read in turn (d)". (`Missing` does not come.)

@@ -66,11 +66,12 @@ resultLate =
     8 ∷ 0 ∷ 0 ∷ 0 ∷ 12 ∷ 0 ∷ 1 ∷ 0 ∷ 17 ∷ 0 ∷ 2 ∷ 0 ∷  -- log
     []
 
--- a full page 2 with calls 1 and 5, and no other page to be had: call 1 is inserted, 3 deleted, 9 and 3 inserted, one after another
+-- a full page 2 with calls 1 and 5, and no other page to be had: call 1 is inserted, 3 deleted, 9 and 3 inserted, and 5 deleted at another charge,
+-- one after another
 abbrev pub jobRest : List ℕ
 jobRest =
-    1 ∷ 0 ∷ 2 ∷ 2 ∷ 2 ∷ 0 ∷ 2 ∷ 0 ∷ 4 ∷ 0 ∷ 20 ∷ 0 ∷  -- version, g, c, P, U, m, turns
-    32 ∷ 0 ∷ 0 ∷ 0 ∷ 40 ∷ 0 ∷ 0 ∷ 0 ∷ 80 ∷ 0 ∷ 0 ∷ 0 ∷ 120 ∷ 0 ∷ 0 ∷ 0 ∷ 160 ∷ 0 ∷ 0 ∷ 0 ∷  -- offsets of directory, page table, operations and turns; total
+    (1 ∷ 0 ∷ 2 ∷ 2 ∷ 2 ∷ 0 ∷ 2 ∷ 0 ∷ 5 ∷ 0 ∷ 25 ∷ 0 ∷  -- version, g, c, P, U, m, turns
+    32 ∷ 0 ∷ 0 ∷ 0 ∷ 40 ∷ 0 ∷ 0 ∷ 0 ∷ 80 ∷ 0 ∷ 0 ∷ 0 ∷ 130 ∷ 0 ∷ 0 ∷ 0 ∷ 180 ∷ 0 ∷ 0 ∷ 0 ∷  -- offsets of directory, page table, operations and turns; total
     1 ∷ 0 ∷ 1 ∷ 0 ∷ 2 ∷ 0 ∷ 2 ∷ 0 ∷  -- directory
     1 ∷ 0 ∷ 0 ∷ 0 ∷ 0 ∷ 0 ∷ 0 ∷ 0 ∷ 0 ∷ 0 ∷ 0 ∷ 0 ∷ 0 ∷ 0 ∷ 0 ∷ 0 ∷ 0 ∷ 0 ∷ 0 ∷ 0 ∷  -- page 1
     1 ∷ 2 ∷ 1 ∷ 0 ∷ 1 ∷ 0 ∷ 0 ∷ 0 ∷ 10 ∷ 0 ∷ 0 ∷ 0 ∷ 5 ∷ 0 ∷ 0 ∷ 0 ∷ 20 ∷ 0 ∷ 0 ∷ 0 ∷  -- page 2
@@ -78,17 +79,18 @@ jobRest =
     3 ∷ 0 ∷ 3 ∷ 0 ∷ 0 ∷ 0 ∷ 0 ∷ 0 ∷ 0 ∷ 0 ∷  -- operation 1
     2 ∷ 0 ∷ 9 ∷ 0 ∷ 0 ∷ 0 ∷ 30 ∷ 0 ∷ 0 ∷ 0 ∷  -- operation 2
     2 ∷ 0 ∷ 3 ∷ 0 ∷ 0 ∷ 0 ∷ 30 ∷ 0 ∷ 0 ∷ 0 ∷  -- operation 3
-    0 ∷ 0 ∷ 0 ∷ 0 ∷ 0 ∷ 0 ∷ 0 ∷ 0 ∷ 0 ∷ 0 ∷ 1 ∷ 0 ∷ 1 ∷ 0 ∷ 1 ∷ 0 ∷ 1 ∷ 0 ∷ 1 ∷ 0 ∷ 2 ∷ 0 ∷ 2 ∷ 0 ∷ 2 ∷ 0 ∷ 2 ∷ 0 ∷ 2 ∷ 0 ∷ 3 ∷ 0 ∷ 3 ∷ 0 ∷ 3 ∷ 0 ∷ 3 ∷ 0 ∷ 3 ∷ 0 ∷  -- turns
-    []
+    3 ∷ 0 ∷ 5 ∷ 0 ∷ 0 ∷ 0 ∷ 30 ∷ 0 ∷ 0 ∷ 0 ∷ [])  -- operation 4
+    ++ each (λ (i : ℕ). each two (replicate 5 i)) (0 ∷ 1 ∷ 2 ∷ 3 ∷ 4 ∷ [])  -- turns
 
 abbrev pub resultRest : List ℕ
 resultRest =
-    (2 ∷ 0 ∷ 4 ∷ 0 ∷ 4 ∷ 0 ∷ 0 ∷ 0 ∷ 24 ∷ 0 ∷ 0 ∷ 0 ∷ 56 ∷ 0 ∷ 0 ∷ 0 ∷ 72 ∷ 0 ∷ 0 ∷ 0 ∷ 152 ∷ 0 ∷ 0 ∷ 0 ∷  -- version, m, L, unfinished; offsets of answers, log and charge file; total
+    (2 ∷ 0 ∷ 5 ∷ 0 ∷ 5 ∷ 0 ∷ 0 ∷ 0 ∷ 24 ∷ 0 ∷ 0 ∷ 0 ∷ 64 ∷ 0 ∷ 0 ∷ 0 ∷ 84 ∷ 0 ∷ 0 ∷ 0 ∷ 164 ∷ 0 ∷ 0 ∷ 0 ∷  -- version, m, L, unfinished; offsets of answers, log and charge file; total
     4 ∷ 1 ∷ 5 ∷ 0 ∷ 10 ∷ 0 ∷ 0 ∷ 0 ∷  -- answer 0
     6 ∷ 1 ∷ 5 ∷ 0 ∷ 0 ∷ 0 ∷ 0 ∷ 0 ∷  -- answer 1
     7 ∷ 1 ∷ 5 ∷ 0 ∷ 0 ∷ 0 ∷ 0 ∷ 0 ∷  -- answer 2
     8 ∷ 1 ∷ 5 ∷ 0 ∷ 0 ∷ 0 ∷ 0 ∷ 0 ∷  -- answer 3
-    3 ∷ 0 ∷ 0 ∷ 0 ∷ 8 ∷ 0 ∷ 1 ∷ 0 ∷ 13 ∷ 0 ∷ 2 ∷ 0 ∷ 18 ∷ 0 ∷ 3 ∷ 0 ∷  -- log
+    9 ∷ 1 ∷ 5 ∷ 0 ∷ 20 ∷ 0 ∷ 0 ∷ 0 ∷  -- answer 4
+    3 ∷ 0 ∷ 0 ∷ 0 ∷ 8 ∷ 0 ∷ 1 ∷ 0 ∷ 13 ∷ 0 ∷ 2 ∷ 0 ∷ 18 ∷ 0 ∷ 3 ∷ 0 ∷ 23 ∷ 0 ∷ 4 ∷ 0 ∷  -- log
     1 ∷ 0 ∷ 2 ∷ 2 ∷ 2 ∷ 0 ∷ 2 ∷ 0 ∷ 0 ∷ 0 ∷ 0 ∷ 0 ∷  -- file: version, g, c, P, U, m, turns
     32 ∷ 0 ∷ 0 ∷ 0 ∷ 40 ∷ 0 ∷ 0 ∷ 0 ∷ 80 ∷ 0 ∷ 0 ∷ 0 ∷ 80 ∷ 0 ∷ 0 ∷ 0 ∷ 80 ∷ 0 ∷ 0 ∷ 0 ∷ [])  -- file: offsets of directory, page table, operations and turns; total
     ++ take 48 (drop 32 jobRest)  -- file: directory and pages, as they were
@@ -172,6 +174,54 @@ jobTaken = set (set (set (set (set (jobPut 5) 35 3) 54 9) 58 30) 62 3) 68 0
 
 abbrev pub resultTaken : List ℕ
 resultTaken = set (set (set (resultPut (1 ∷ 10 ∷ 9 ∷ 30 ∷ 0 ∷ 0 ∷ [])) 24 5) 28 20) 71 2
+
+-- a page with call 5 at the charge `held`, and a delete of `call` with the charge `asked`
+abbrev pub jobStrike : ℕ → ℕ → ℕ → List ℕ
+jobStrike held call asked =
+    (1 ∷ 0 ∷ 0 ∷ 1 ∷ 1 ∷ 0 ∷ 1 ∷ 0 ∷ 1 ∷ 0 ∷ 6 ∷ 0 ∷  -- version, g, c, P, U, m, turns
+    32 ∷ 0 ∷ 0 ∷ 0 ∷ 34 ∷ 0 ∷ 0 ∷ 0 ∷ 46 ∷ 0 ∷ 0 ∷ 0 ∷ 56 ∷ 0 ∷ 0 ∷ 0 ∷ 68 ∷ 0 ∷ 0 ∷ 0 ∷  -- offsets of directory, page table, operations and turns; total
+    1 ∷ 0 ∷  -- directory
+    0 ∷ 1 ∷ 0 ∷ 0 ∷ []) ++ four 5 ++ four held  -- page 1
+    ++ (3 ∷ 0 ∷ []) ++ four call ++ four asked  -- operation 0
+    ++ each two (replicate 6 0)  -- turns
+
+-- its result: the answer's code and charge, turns used, moment, and page 1
+abbrev pub resultStrike : ℕ → ℕ → ℕ → ℕ → List ℕ → List ℕ
+resultStrike code charge used moment page =
+    (2 ∷ 0 ∷ 1 ∷ 0 ∷ 1 ∷ 0 ∷ 0 ∷ 0 ∷ 24 ∷ 0 ∷ 0 ∷ 0 ∷ 32 ∷ 0 ∷ 0 ∷ 0 ∷ 36 ∷ 0 ∷ 0 ∷ 0 ∷ 82 ∷ 0 ∷ 0 ∷ 0 ∷  -- version, m, L, unfinished; offsets of answers, log and charge file; total
+    code ∷ 0 ∷ used ∷ 0 ∷ []) ++ four charge  -- answer 0
+    ++ (moment ∷ 0 ∷ 0 ∷ 0 ∷  -- log
+    1 ∷ 0 ∷ 0 ∷ 1 ∷ 1 ∷ 0 ∷ 1 ∷ 0 ∷ 0 ∷ 0 ∷ 0 ∷ 0 ∷  -- file: version, g, c, P, U, m, turns
+    32 ∷ 0 ∷ 0 ∷ 0 ∷ 34 ∷ 0 ∷ 0 ∷ 0 ∷ 46 ∷ 0 ∷ 0 ∷ 0 ∷ 46 ∷ 0 ∷ 0 ∷ 0 ∷ 46 ∷ 0 ∷ 0 ∷ 0 ∷  -- file: offsets of directory, page table, operations and turns; total
+    1 ∷ 0 ∷ [])  -- file: directory
+    ++ page
+
+-- struck out on the page's writing; and left as it is, with this answer, on turn (d)
+abbrev pub resultStruck : ℕ → List ℕ
+resultStruck held = resultStrike 5 held 6 4 (replicate 12 0)
+
+abbrev pub resultLeft : ℕ → ℕ → ℕ → List ℕ
+resultLeft held code charge = resultStrike code charge 5 3 ((0 ∷ 1 ∷ 0 ∷ 0 ∷ []) ++ four 5 ++ four held)
+
+-- two bursars strike out call 5, which is there at 250: one saw 180, the other, who has to wait for the page, 250
+abbrev pub jobBursars : List ℕ
+jobBursars =
+    (1 ∷ 0 ∷ 0 ∷ 1 ∷ 1 ∷ 0 ∷ 1 ∷ 0 ∷ 2 ∷ 0 ∷ 12 ∷ 0 ∷  -- version, g, c, P, U, m, turns
+    32 ∷ 0 ∷ 0 ∷ 0 ∷ 34 ∷ 0 ∷ 0 ∷ 0 ∷ 46 ∷ 0 ∷ 0 ∷ 0 ∷ 66 ∷ 0 ∷ 0 ∷ 0 ∷ 90 ∷ 0 ∷ 0 ∷ 0 ∷  -- offsets of directory, page table, operations and turns; total
+    1 ∷ 0 ∷  -- directory
+    0 ∷ 1 ∷ 0 ∷ 0 ∷ 5 ∷ 0 ∷ 0 ∷ 0 ∷ 250 ∷ 0 ∷ 0 ∷ 0 ∷  -- page 1
+    3 ∷ 0 ∷ 5 ∷ 0 ∷ 0 ∷ 0 ∷ 180 ∷ 0 ∷ 0 ∷ 0 ∷  -- operation 0
+    3 ∷ 0 ∷ 5 ∷ 0 ∷ 0 ∷ 0 ∷ 250 ∷ 0 ∷ 0 ∷ 0 ∷ [])  -- operation 1
+    ++ each two (0 ∷ 1 ∷ 0 ∷ 1 ∷ 0 ∷ 0 ∷ 0 ∷ 1 ∷ 1 ∷ 1 ∷ 1 ∷ 1 ∷ [])  -- turns
+
+abbrev pub textBursars : List ℕ
+textBursars =
+    text "job depth 0 capacity 1 pages 1 operations 2 turns 12\n"
+    ++ text "op 0 delete 5 differs 250 turns 5\n"
+    ++ text "op 1 delete 5 deleted 250 turns 6\n"
+    ++ text "at 5 op 0\n"
+    ++ text "at 10 op 1\n"
+    ++ text "page 1 depth 0 pattern 0 :\n"
 
 -- (D), (E2), (F): the same with two pages; the three differ in the call that is inserted
 abbrev pub jobD : List ℕ

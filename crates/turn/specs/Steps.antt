@@ -16,9 +16,10 @@ use Rattle.spec.specs.declared.Part.the-variants.{WriteNew, WriteEntry, UnlockN
 use Rattle.spec.specs.declared.Stage.{Stage}
 use Rattle.spec.specs.declared.Stage.the-variants.{NotBegun, ReadPage, Reread, Lock, Held, Split, Done}
 use Rattle.spec.specs.Basics.{if}
-use Rattle.spec.specs.Code.{found, notFound, stored, alreadyThere, deleted, absent, noDepth, noPage}
+use Rattle.spec.specs.Code.{found, notFound, stored, alreadyThere, deleted, absent, noDepth, noPage, differs}
 use Rattle.spec.specs.Key.{index}
 use Rattle.spec.specs.File.{Page, zeroPage, lookIn, foundOf}
+use Rattle.spec.specs.Job.{strikes}
 use Rattle.spec.specs.Split.{Grown, added, grow, leastShared, splitCount}
 use Rattle.spec.specs.Turn.{recOf, begin, cleared}
 unfoldable pub use Rattle.laws.specs.Turns.GoesBy.{entryBit, lastOne}
@@ -66,9 +67,13 @@ unfoldable pub memVerified : Shape → Op → Row → List ℕ → ℕ → Out
 memVerified sh op r w x =
     if (eqb (named sh op w) x) (out (moved r (Held x Decide)) w) (out (moved r (Held x (Release (named sh op w)))) w)
 
+-- an operation that holds page x has its answer, told with that page, and the next turn unlocks
+abbrev pub settled : Row → ℕ → ℕ → ℕ → ℕ → Row
+settled r x code charge t = answered (moved r (Held x Unlock)) code charge x t
+
 -- turn (d)
 unfoldable pub memRefused : ℕ → Row → List ℕ → ℕ → ℕ → ℕ → Out
-memRefused t r w x code charge = out (answered (moved r (Held x Unlock)) code charge x t) w
+memRefused t r w x code charge = out (settled r x code charge t) w
 
 -- an insert takes n new pages, when u are in use
 unfoldable pub memTaken : Row → List ℕ → ℕ → ℕ → ℕ → Out
@@ -85,23 +90,27 @@ unfoldable pub memPlaced : Shape → Op → ℕ → Row → List ℕ → ℕ →
 memPlaced sh op t r w x p =
     if (ltb (length (p .records)) (sh .capacity)) (out (moved r (Held x WritePage)) w) (memFull sh op t r w x p)
 
+-- a delete with the charge `asked` finds its call in page x at the charge `held`
+unfoldable pub memAtCharge : ℕ → ℕ → Row → ℕ → ℕ → Row
+memAtCharge asked t r x held = if (strikes asked held) (moved r (Held x WritePage)) (settled r x differs held t)
+
 unfoldable pub memDecided : Shape → Op → ℕ → Row → List ℕ → Kind → Found → Out
 memDecided sh op t r w Search (Missing x) = out (moved r (Held x Unlock)) w
 memDecided sh op t r w Search (Charge x v) = out (moved r (Held x Unlock)) w
 memDecided sh op t r w Insert (Missing x) = memPlaced sh op t r w x (pageIn (sh .capacity) w x)
 memDecided sh op t r w Insert (Charge x v) = memRefused t r w x alreadyThere v
 memDecided sh op t r w Delete (Missing x) = memRefused t r w x absent 0
-memDecided sh op t r w Delete (Charge x v) = out (moved r (Held x WritePage)) w
+memDecided sh op t r w Delete (Charge x v) = out (memAtCharge (op .charge) t r x v) w
 
 -- the row of a delete that writes its page, by what it finds there
 unfoldable pub memStruck : ℕ → Row → Found → Row
-memStruck t r (Missing x) = answered (moved r (Held x Unlock)) deleted 0 x t
-memStruck t r (Charge x v) = answered (moved r (Held x Unlock)) deleted v x t
+memStruck t r (Missing x) = settled r x deleted 0 t
+memStruck t r (Charge x v) = settled r x deleted v t
 
 unfoldable pub memWritten : Shape → Op → ℕ → Row → List ℕ → ℕ → Kind → Page → Out
 memWritten sh op t r w x Search p = out (moved r (Held x Unlock)) w
 memWritten sh op t r w x Insert p =
-    out (answered (moved r (Held x Unlock)) stored (op .charge) x t) (withPage (sh .capacity) w x (added p (recOf op)))
+    out (settled r x stored (op .charge) t) (withPage (sh .capacity) w x (added p (recOf op)))
 memWritten sh op t r w x Delete p =
     out (memStruck t r (foundOf x (lookIn (p .records) (op .call)))) (withPage (sh .capacity) w x (cleared p (op .call)))
 
@@ -118,7 +127,7 @@ unfoldable pub memOld : Shape → Op → ℕ → Row → List ℕ → ℕ → Ou
 memOld sh op t r w x =
     let n : ℕ = splitCount (pageIn (sh .capacity) w x) (op .call) in
     out
-    (if (eqb (goes sh op w x n (home sh op)) 0) (answered (moved r (Held x Unlock)) stored (op .charge) x t) (moved r (Held x Unlock)))
+    (if (eqb (goes sh op w x n (home sh op)) 0) (settled r x stored (op .charge) t) (moved r (Held x Unlock)))
     (withPage (sh .capacity) w x (plan sh op w x .old))
 
 unfoldable pub memHeld : Shape → Op → ℕ → Row → List ℕ → ℕ → Task → Out

@@ -17,12 +17,13 @@ ghost use lib.Dec.{eqb};
 ghost use lib.ListN.{length};
 ghost use Rattle.spec.specs.declared.Stage.the-variants.{Held};
 ghost use Rattle.spec.specs.declared.Task.the-variants.{Unlock};
+ghost use Rattle.spec.specs.Job.{strikes};
 ghost use Rattle.spec.specs.Check.{workSize};
 ghost use Rattle.spec.specs.Split.{splitCount};
 ghost use Rattle.spec.specs.Turn.{recOf};
 ghost use Rattle.memory.specs.Memory.{withLocks, withUsed, pageIn, foundIn};
-ghost use Rattle.turn.specs.Rows.{moved, answered};
-ghost use Rattle.turn.specs.Steps.{out, home, goes, memLock, memVerified, memTaken, memFull, memPlaced, memDecided, memStruck, memWritten, memOld, memHeld};
+ghost use Rattle.turn.specs.Rows.{moved};
+ghost use Rattle.turn.specs.Steps.{out, settled, home, goes, memLock, memVerified, memTaken, memFull, memPlaced, memAtCharge, memDecided, memStruck, memWritten, memOld, memHeld};
 ghost use Rattle.turn.specs.Safe.{Ready, Readable, Planned, Writable, SafeHeld};
 
 // The record that an insert stores.
@@ -33,6 +34,16 @@ pub fn rec_of(op: Op) -> Rec
         call: op.call,
         charge: op.charge,
     }
+}
+
+// A delete "with charge zero strikes out as ever", and with another only "where the file's charge is equal".
+fn strikes_out(asked: u32, held: u32) -> bool
+    ensures { λ r. ⌜ r ≡ strikes asked held ⌝ }
+{
+    if asked == 0 {
+        return true;
+    }
+    asked == held
 }
 
 // The call stays in page x, which is split: its own entry goes to none of the new pages.
@@ -92,10 +103,23 @@ impl Row {
     // The operation has its answer, told with the page that it holds, and the next turn unlocks that page.
     fn settled(self, x: u16, code: u8, charge: u32, moment: u16) -> Row
         requires { ⌜ self .used < 65535 ⌝ }
-        ensures { λ r. ⌜ r ≡ answered (moved self (Held x Unlock)) code charge x moment ⌝ }
+        ensures { λ r. ⌜ r ≡ settled self x code charge moment ⌝ }
     {
         self.moved(Stage::Held(x, Task::Unlock))
             .answered(code, charge, x, moment)
+    }
+
+    // A delete with the charge `asked` finds its call in page x at the charge `held`: "Where the call is there at another charge, the answer is
+    // 9, "differs", with the file's charge".
+    fn at_charge(self, asked: u32, t: u16, x: u16, held: u32) -> Row
+        requires { ⌜ self .used < 65535 ⌝ }
+        ensures { λ r. ⌜ r ≡ memAtCharge asked t self x held ⌝ }
+    {
+        if strikes_out(asked, held) {
+            self.moved(Stage::Held(x, Task::WritePage))
+        } else {
+            self.settled(x, codes::DIFFERS, held, t)
+        }
     }
 
     // The answer of a delete, by what it found in its page.
@@ -161,7 +185,7 @@ impl Row {
                 Found::Missing(y) => self.place(shape, op, t, y, work),
             },
             Kind::Delete => match found {
-                Found::Charge(y, _) => self.moved(Stage::Held(y, Task::WritePage)),
+                Found::Charge(y, v) => self.at_charge(op.charge, t, y, v),
                 Found::Missing(y) => self.settled(y, codes::ABSENT, 0, t),
             },
         }

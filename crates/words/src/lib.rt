@@ -20,7 +20,8 @@ pub fn put_kind(out: &mut [u8], at: usize, kind: u8) -> usize
     }
 }
 
-// "0 not yet, 1 found, 2 none, 3 stored, 4 already there, 5 deleted, 6 absent, 7 no depth, 8 no page". There is no other code, and no word for one.
+// "0 not yet, 1 found, 2 none, 3 stored, 4 already there, 5 deleted, 6 absent, 7 no depth, 8 no page"; "9, "differs"". There is no other code, and no
+// word for one.
 pub fn put_code(out: &mut [u8], at: usize, code: u8) -> usize
     requires { ⌜ at + 14 ≤ length (now out) ⌝ }
     ensures { λ r. ⌜ Wrote 14 (now (out .entry)) at (text " " ++ codeWord code) (now (out .exit)) r ⌝ }
@@ -35,6 +36,7 @@ pub fn put_code(out: &mut [u8], at: usize, code: u8) -> usize
         6 => put_bytes(out, at, b" absent"),
         7 => put_bytes(out, at, b" no depth"),
         8 => put_bytes(out, at, b" no page"),
+        9 => put_bytes(out, at, b" differs"),
         _ => put_bytes(out, at, b" "),
     }
 }

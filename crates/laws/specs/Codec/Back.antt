@@ -71,7 +71,7 @@ page-back c p h = λ i. record { depth = p .depth; pattern = word-two (p .patter
         ap (map recordOf) (parts-each recordBytes 8 (p .records) _ (every length-record (p .records)))
         ∙ map-back recordOf recordBytes (each-imp record-back (h .records))
 
-kind-back : (k : Kind) → kindOf (kindNumber k) ≡ k
+pub kind-back : (k : Kind) → kindOf (kindNumber k) ≡ k
 unfolding kindOf kindNumber if
 kind-back Search = refl
 kind-back Insert = refl

@@ -1,14 +1,14 @@
 -- An accepted job is a proper one, and fits its fields. So the byte strings that no row refuses are exactly the written proper jobs.
 use Prim.Native.Nat.{ℕ, zero, suc}
-use mathlib.Core.Path.{_≡_}
+use mathlib.Core.Path.{_≡_, sym, ap, _∙_}
 use mathlib.Core.Logic.{_↔_}
 use mathlib.Core.List.{List, []}
 use mathlib.Core.Option.{none}
 use native.Mathlib.Omega.{arith}
 use lib.ListN.{drop}
-use Rattle.spec.specs.Basics.{if, Each}
+use Rattle.spec.specs.Basics.{Each}
 use Rattle.spec.specs.Bytes.{AreBytes, byte}
-use Rattle.spec.specs.Job.{Job, kindOf, opSize, tableOffset, opsOffset}
+use Rattle.spec.specs.Job.{Job, kindNumber, opSize, tableOffset, opsOffset}
 use Rattle.spec.specs.Encode.{encodeJob}
 use Rattle.spec.specs.Decode.{headerOf, pageParts, opParts, recordOf, pageOf, opOf, fileOf, jobOf}
 use Rattle.spec.specs.Check.{wrongOp, jobFault}
@@ -20,7 +20,7 @@ use Rattle.laws.specs.Codec.Pages.{length-pages, page-at}
 use Rattle.laws.specs.Codec.Ops.{OpFine, ops-said}
 use Rattle.laws.specs.Codec.Accepted.{accepted-file, accepted-turns}
 use Rattle.laws.specs.Codec.Back.{RecFits}
-use Rattle.laws.specs.Codec.Forth.{encode-decode}
+use Rattle.laws.specs.Codec.Forth.{kind-forth, encode-decode}
 use Rattle.laws.specs.Codec.Proper.{RecordsFit, OpProper, JobProper}
 use Rattle.laws.specs.Codec.Written.{proper-accepted}
 use Rattle.laws.specs.Codec.AsBytes.{written-bytes}
@@ -35,11 +35,11 @@ unfolding pageOf
 page-fits p h = each-map recordOf _ .1 (each-imp record-fits (parts-bytes (byte p 1) 8 (drop 4 p) (drop-bytes 4 p h)))
 
 op-proper : (o : List ℕ) → AreBytes o → OpFine o → OpProper (opOf o)
-unfolding opOf kindOf if
+unfolding opOf kindNumber
 op-proper o h fine =
     record {
       fits = record { call = long-lt o h 2; charge = long-lt o h 6 };
-      charge = λ n. fine .charge (λ (e : byte o 0 ≡ 2). n (rw e));
+      charge = λ n. fine .charge (sym (kind-forth (byte o 0) (fine .kind .0) (fine .kind .1)) ∙ ap kindNumber n);
     }
 
 records-fit : (b : List ℕ) → AreBytes b → Rows b → RecordsFit (fileOf b)

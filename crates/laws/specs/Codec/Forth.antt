@@ -31,7 +31,7 @@ section-forth
 section-forth b bytes enc dec n size at l h =
     record { same = each-parts enc size dec n (drop at b) (h (parts-whole n size (drop at b) (drop-bytes at b bytes) (rw length-drop (omega arith)))) }
 
-kind-forth : (k : ℕ) → 1 ≤ k → k ≤ 3 → kindNumber (kindOf k) ≡ k
+pub kind-forth : (k : ℕ) → 1 ≤ k → k ≤ 3 → kindNumber (kindOf k) ≡ k
 unfolding kindOf kindNumber if
 kind-forth zero l u = absurd (omega arith)
 kind-forth (suc zero) l u = refl

@@ -16,7 +16,7 @@ use Rattle.laws.specs.Codec.Walk.{first-each}
 pub record OpFine (o : List ℕ) : Type 0 where
   pub kind : (1 ≤ byte o 0) × (byte o 0 ≤ 3)
   pub spare : byte o 1 ≡ 0
-  pub charge : (byte o 0 ≡ 2 → ⊥) → long o 6 ≡ 0
+  pub charge : byte o 0 ≡ 1 → long o 6 ≡ 0
 
 op-fine : (h : Header) (i : ℕ) (o : List ℕ) → opFault h i o ≡ none ↔ OpFine o
 unfolding opFault badOp

@@ -5,7 +5,7 @@ use mathlib.Core.List.{List, [], _∷_}
 use native.Mathlib.Omega.{arith}
 use lib.ListN.{length, getD, drop, length-drop}
 use lib.Pow.{pow-mono}
-use Rattle.spec.specs.declared.Kind.the-variants.{Insert}
+use Rattle.spec.specs.declared.Kind.the-variants.{Search}
 use Rattle.spec.specs.declared.Op.{Op}
 use Rattle.spec.specs.Basics.{Each, end}
 use Rattle.spec.specs.File.{Page, File, zeroPage, pageAt}
@@ -24,7 +24,7 @@ RecordsFit f = (x : ℕ) → PageNo f x → Each RecFits (pageAt f x .records)
 
 pub record OpProper (o : Op) : Type 0 where
   pub fits : OpFits o
-  pub charge : (o .kind ≡ Insert → ⊥) → o .charge ≡ 0
+  pub charge : o .kind ≡ Search → o .charge ≡ 0
 
 pub record JobProper (j : Job) : Type 0 where
   pub file : FileOk (j .file)

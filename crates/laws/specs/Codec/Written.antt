@@ -10,10 +10,10 @@ use lib.Seq.{drop-at}
 use Rattle.spec.specs.declared.Kind.{Kind}
 use Rattle.spec.specs.declared.Kind.the-variants.{Search, Insert, Delete}
 use Rattle.spec.specs.declared.Op.{Op}
-use Rattle.spec.specs.Basics.{each}
+use Rattle.spec.specs.Basics.{if, each}
 use Rattle.spec.specs.Bytes.{byte, word, long, two, four}
 use Rattle.spec.specs.File.{Page, File, zeroPage, entryAt}
-use Rattle.spec.specs.Job.{Job, fileJob, Header, kindNumber, tableOffset, opsOffset, turnsOffset, total}
+use Rattle.spec.specs.Job.{Job, fileJob, Header, kindNumber, kindOf, tableOffset, opsOffset, turnsOffset, total}
 use Rattle.spec.specs.Encode.{headerBytes, recordBytes, pageBytes, opBytes, headerFor, encodeJob, encodeFile}
 use Rattle.spec.specs.Decode.{headerOf, jobOf}
 use Rattle.spec.specs.Check.{wrongEntry, wrongPage, wrongOwner, wrongRecord, wrongOp, wrongTurn, jobFault}
@@ -29,7 +29,7 @@ use Rattle.laws.specs.Codec.Records.{records-said}
 use Rattle.laws.specs.Codec.Pages.{PageFine, pages-said}
 use Rattle.laws.specs.Codec.Ops.{OpFine, ops-said, turns-said}
 use Rattle.laws.specs.Codec.Sections.{length-records, headOf, header-first, length-job, pages-written, ops-written, turns-written}
-use Rattle.laws.specs.Codec.Back.{JobFits, number-back, sized, head-back, file-back, decode-encode}
+use Rattle.laws.specs.Codec.Back.{kind-back, JobFits, number-back, sized, head-back, file-back, decode-encode}
 use Rattle.laws.specs.Codec.Longest.{total-most}
 use Rattle.laws.specs.Codec.Proper.{RecordsFit, OpProper, JobProper, pages-proper, job-fits, file-proper}
 
@@ -61,12 +61,12 @@ page-passes h x p ok l unused =
 
 -- an operation's bytes pass row 9
 op-passes : (o : Op) → OpProper o → OpFine (opBytes o)
-unfolding opBytes kindNumber long word byte four two
+unfolding opBytes kindNumber kindOf if long word byte four two
 op-passes o P =
     record {
       kind = kind (o .kind);
       spare = refl;
-      charge = λ n. long-four (o .charge) [] (P .fits .charge) ∙ P .charge (λ e. n (ap kindNumber e));
+      charge = λ n. long-four (o .charge) [] (P .fits .charge) ∙ P .charge (sym (kind-back (o .kind)) ∙ ap kindOf n);
     }
   where
     kind : (k : Kind) → (1 ≤ kindNumber k) × (kindNumber k ≤ 3)

@@ -114,7 +114,8 @@ plain-twice Search op (some r) k l e h = h
 plain-twice Insert op none k l e h = if-case (λ (p : Plain). NoneTwice (p .list)) (λ u. h) (λ u. added-twice l _ h e)
 plain-twice Insert op (some r) k l e h = h
 plain-twice Delete op none k l e h = h
-plain-twice Delete op (some r) k l e h = filter-twice (isNot (op .call)) l h
+plain-twice Delete op (some r) k l e h =
+    if-case (λ (p : Plain). NoneTwice (p .list)) (λ u. filter-twice (isNot (op .call)) l h) (λ u. h)
 
 pub replay-twice
     : (ops : List Op) (answers : List Told) (hs : List Line) (l : List Rec)
@@ -142,7 +143,11 @@ plain-refused Insert op none k l h =
     h
 plain-refused Insert op (some r) k l h = absurd (⊎-elim (λ e. omega arith) (λ e. omega arith) h)
 plain-refused Delete op none k l h = (refl, refl)
-plain-refused Delete op (some r) k l h = absurd (⊎-elim (λ e. omega arith) (λ e. omega arith) h)
+plain-refused Delete op (some r) k l h =
+    absurd
+    (if-case (λ (p : Plain). TurnedDown (p .code) → ⊥) (λ u. ⊎-elim (λ e. omega arith) (λ e. omega arith))
+    (λ u. ⊎-elim (λ e. omega arith) (λ e. omega arith))
+    h)
 
 pub refused-at
     : (ops : List Op) (answers : List Told) (hs : List Line) (l : List Rec) (p : ℕ)

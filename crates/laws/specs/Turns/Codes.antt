@@ -26,7 +26,7 @@ use Rattle.spec.specs.File.{Page, File, zeroPage, pageAt, entryAt, foundOf, loo
 use Rattle.spec.specs.Job.{noOp}
 use Rattle.spec.specs.Code.{notYet, stored, deleted}
 use Rattle.spec.specs.State.{Row, State, Answer, same, Move, blank, gone, go, goPage, goEntry}
-use Rattle.spec.specs.Turn.{homeOf, planOf, goesTo, begin, looked, reread, placed, decided, struck, written, verified, oldWritten, heldTurn, entriesFrom, splitTurn, turn}
+use Rattle.spec.specs.Turn.{homeOf, planOf, goesTo, begin, looked, reread, struck, written, verified, oldWritten, heldTurn, entriesFrom, splitTurn, turn}
 use Rattle.spec.specs.Run.{tableAfter, fileAfter, codeAfter, momentAfter, rowAfter, rowOf, stageOf, tick, act, step, start}
 use Rattle.spec.specs.Proper.{Fit}
 use Rattle.laws.specs.Tools.{if-case}
@@ -38,6 +38,7 @@ use Rattle.laws.specs.Turns.Good.{Planned, FinePart, Fine, MayPage, Good
 use Rattle.laws.specs.Turns.Legal.{i-legal}
 use Rattle.laws.specs.Turns.Work.{WorkPart, Work}
 use Rattle.laws.specs.Turns.Does.{Coherent}
+use Rattle.laws.specs.Turns.Decision.{Decision, searching, refusedMissing, refusedThere, toStore, toStrike, toSplit, decision}
 
 -- of an operation that splits page x: its moment is the writing of the old page, if its entry stays
 abbrev pub Splits : File → Op → ℕ → ℕ → Type 0
@@ -94,22 +95,14 @@ module _ (s : State) (op : Op) (r : Row) where
   begin-tells Insert x e h = record { once = inr h; code = (λ i. let z : _≡_ {A = ℕ} 0 1 = cc in omega arith, h) }
   begin-tells Delete x e h = record { once = inr h; code = (λ i. let z : _≡_ {A = ℕ} 0 1 = cc in omega arith, h) }
 
-  placed-tells : (x : ℕ) (p : Page) → NoSearch op → r .code ≡ notYet → T (placed s op x p)
-  unfolding placed codeAfter CodeTask CodePart
-  placed-tells x p n h =
-      if-case T (λ a. record { once = inr h; code = (n, h) })
-      (λ a.
-      if-case T (λ b. record { once = inr h; code = (n, λ z. omega arith) })
-      (λ b.
-      if-case T (λ c. record { once = inr h; code = (n, λ z. omega arith) }) (λ c. record { once = inr h; code = (n, h) })))
-
-  decided-tells : (x : ℕ) (k : Kind) (o : Option Rec) → op .kind ≡ k → NoSearch op → r .code ≡ notYet → T (decided s op k (foundOf x o))
-  unfolding decided foundOf codeAfter CodeTask
-  decided-tells x Search o e n h = absurd (n e)
-  decided-tells x Insert none e n h = placed-tells x _ n h
-  decided-tells x Insert (some w) e n h = record { once = inr h; code = (n, λ z. omega arith) }
-  decided-tells x Delete none e n h = record { once = inr h; code = (n, λ z. omega arith) }
-  decided-tells x Delete (some w) e n h = record { once = inr h; code = (n, h) }
+  decided-tells : {x : ℕ} {o : Option Rec} {m : Move} → NoSearch op → r .code ≡ notYet → Decision s op x o m → T m
+  unfolding codeAfter CodeTask CodePart
+  decided-tells n h (searching e) = absurd (n e)
+  decided-tells n h (refusedMissing l y) = record { once = inr h; code = (n, λ z. omega arith) }
+  decided-tells n h (refusedThere l y) = record { once = inr h; code = (n, λ z. omega arith) }
+  decided-tells n h (toStore i l) = record { once = inr h; code = (n, h) }
+  decided-tells n h (toStrike e t) = record { once = inr h; code = (n, h) }
+  decided-tells n h (toSplit i l d u) = record { once = inr h; code = (n, h) }
 
   struck-code : (t : ℕ) (o : Found) → codeAfter (struck t o) r ≡ deleted
   unfolding struck codeAfter
@@ -134,7 +127,7 @@ module _ (s : State) (op : Op) (r : Row) where
   unfolding heldTurn verified codeAfter CodeTask
   held-tells x Verify n h = if-case T (λ e. record { once = inr h; code = (n, h) }) (λ e. record { once = inr h; code = (n, h) })
   held-tells x (Release y) n h = record { once = inr h; code = (n, h) }
-  held-tells x Decide n h = decided-tells x _ _ refl n h
+  held-tells x Decide n h = decided-tells n h (decision s op x _)
   held-tells x WritePage n h = written-tells x _ _ refl n h
   held-tells x WriteOld n h = old-tells x n h
   held-tells x Unlock n h = record { once = inl refl; code = h }

@@ -25,6 +25,7 @@ use Rattle.laws.specs.Turns.Work.{WorkTask, Work, work-after, leaves-oth
 use Rattle.laws.specs.Turns.Does.{quiet, seesNone, Coherent, Does}
 use Rattle.laws.specs.Turns.PageTurns.{calm, begin-does, looked-does, decided-does, written-does}
 use Rattle.laws.specs.Turns.SplitTurns.{old-does, new-does, entry-does, unlock-does}
+use Rattle.laws.specs.Turns.Decision.{decision}
 
 module _ (ops : List Op) (s : State) (op : Op) (good : Good ops s) (coherent : Coherent ops s) where
   abbrev f : File
@@ -39,7 +40,7 @@ module _ (ops : List Op) (s : State) (op : Op) (good : Good ops s) (coherent : C
       if-case (D (Held x Verify)) (λ e. calm ops s op good coherent (eqb-true _ _ e) (quiet refl) tt)
       (λ e. calm ops s op good coherent tt (quiet refl) tt)
   held-does x (Release y) h w = calm ops s op good coherent tt (quiet refl) tt
-  held-does x Decide h w = decided-does ops s op good coherent x w _ _ refl refl
+  held-does x Decide h w = decided-does ops s op good coherent x w refl (decision s op x _)
   held-does x WritePage h w = written-does ops s op good coherent x (w .0) _ refl (h .0) w
   held-does x WriteOld h w = old-does ops s op good coherent x (h .0) (w .0) (w .1)
   held-does x Unlock h w = calm ops s op good coherent tt (quiet refl) tt

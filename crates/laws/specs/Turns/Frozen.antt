@@ -4,30 +4,27 @@ use Prim.Native.Nat.{ℕ, zero, suc, _+_, _-_, _<_, _≤_}
 use mathlib.Core.Path.{_≡_, refl, sym, _∙_}
 use mathlib.Core.Logic.{inl, by-cases}
 use mathlib.Core.List.{List}
-use mathlib.Core.Option.{Option, none, some}
+use mathlib.Core.Option.{Option, none}
 use native.Mathlib.Omega.{arith}
 use native.Mathlib.Decide.{ℕ-discrete}
 use lib.ListN.{length, getD}
 use lib.Seq.{getD-set-other}
 use Rattle.spec.specs.declared.Rec.{Rec}
 use Rattle.spec.specs.declared.Op.{Op}
-use Rattle.spec.specs.declared.Kind.{Kind}
-use Rattle.spec.specs.declared.Kind.the-variants.{Search, Insert, Delete}
 use Rattle.spec.specs.declared.Task.{Task}
 use Rattle.spec.specs.declared.Task.the-variants.{Verify, Release, Decide, WritePage, WriteOld, Unlock}
 use Rattle.spec.specs.declared.Part.{Part}
 use Rattle.spec.specs.declared.Part.the-variants.{WriteNew, WriteEntry, UnlockNew}
 use Rattle.spec.specs.declared.Stage.{Stage}
 use Rattle.spec.specs.declared.Stage.the-variants.{NotBegun, ReadPage, Reread, Lock, Held, Split, Done}
-use Rattle.spec.specs.File.{File, zeroPage, pageAt, foundOf}
+use Rattle.spec.specs.File.{File, zeroPage, pageAt}
 use Rattle.spec.specs.Job.{Job, noOp}
 use Rattle.spec.specs.Split.{Grown}
 use Rattle.spec.specs.State.{State, Move}
-use Rattle.spec.specs.Turn.{planOf, placed, decided, oldWritten, heldTurn, splitTurn, turn}
+use Rattle.spec.specs.Turn.{planOf, oldWritten, heldTurn, splitTurn, turn}
 use Rattle.spec.specs.Run.{tableAfter, fileAfter, rowOf, stageOf, step}
 use Rattle.spec.specs.Proper.{FileOk}
 use Rattle.spec.specs.Claims.{stateAt}
-use Rattle.laws.specs.Tools.{if-case}
 use Rattle.laws.specs.Turns.Rows.{stage-after, step-case}
 use Rattle.laws.specs.Turns.Locks.{Holds}
 use Rattle.laws.specs.Turns.Plans.{plan-same}
@@ -35,6 +32,7 @@ use Rattle.laws.specs.Turns.Good.{Fine, MayPage, Good, page-other}
 use Rattle.laws.specs.Turns.Legal.{i-legal}
 use Rattle.laws.specs.Turns.States.{who, stateAt-suc}
 use Rattle.laws.specs.Turns.Whole.{whole}
+use Rattle.laws.specs.Turns.Decision.{Decision, searching, refusedMissing, refusedThere, toStore, toStrike, toSplit, decision}
 
 -- the turns of a split, until the old page is written, leave its page
 pub split-page
@@ -136,20 +134,17 @@ module _ (op : Op) (x b n : ℕ) (p : Grown) where
   own-frozen s Done fi h = tt
 
 -- turn (d) writes no page
-decided-page : (s : State) (op : Op) (x : ℕ) (k : Kind) (o : Option Rec) → decided s op k (foundOf x o) .page ≡ none
-unfolding decided foundOf placed
-decided-page s op x Search none = refl
-decided-page s op x Search (some r) = refl
-decided-page s op x Insert none =
-    if-case (λ (m : Move). m .page ≡ none) (λ a. refl)
-    (λ a. if-case (λ (m : Move). m .page ≡ none) (λ b. refl) (λ b. if-case (λ (m : Move). m .page ≡ none) (λ c. refl) (λ c. refl)))
-decided-page s op x Insert (some r) = refl
-decided-page s op x Delete none = refl
-decided-page s op x Delete (some r) = refl
+decided-page : {s : State} {op : Op} {x : ℕ} {o : Option Rec} {m : Move} → Decision s op x o m → m .page ≡ none
+decided-page (searching e) = refl
+decided-page (refusedMissing l y) = refl
+decided-page (refusedThere l y) = refl
+decided-page (toStore i l) = refl
+decided-page (toStrike e t) = refl
+decided-page (toSplit i l d u) = refl
 
 decide-page : (s : State) (op : Op) (x : ℕ) (st : Stage) → st ≡ Held x Decide → turn s op st .page ≡ none
 unfolding turn heldTurn
-decide-page s op x st e = rw e (decided-page s op x _ _)
+decide-page s op x st e = rw e (decided-page (decision s op x _))
 
 -- a turn of operation k, where operation i is under way
 module _ (ops : List Op) (s : State) (i k : ℕ) (good : Good ops s) where

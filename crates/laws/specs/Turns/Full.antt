@@ -7,7 +7,7 @@ use mathlib.Core.List.{List}
 use mathlib.Core.Option.{Option, none, some}
 use native.Mathlib.Omega.{arith}
 use lib.ListN.{length, getD}
-use borrow.Author.Tests.{ltb-false, lt-leb}
+use borrow.Author.Tests.{lt-leb}
 use Rattle.spec.specs.declared.Rec.{Rec}
 use Rattle.spec.specs.declared.Op.{Op}
 use Rattle.spec.specs.declared.Kind.{Kind}
@@ -22,7 +22,7 @@ use Rattle.spec.specs.File.{File, pageAt, foundOf}
 use Rattle.spec.specs.Job.{Job, noOp}
 use Rattle.spec.specs.Split.{splitCount}
 use Rattle.spec.specs.State.{State, same, Move, go}
-use Rattle.spec.specs.Turn.{newCount, begin, looked, reread, placed, decided, written, verified, oldWritten, heldTurn, splitTurn, turn}
+use Rattle.spec.specs.Turn.{newCount, begin, looked, reread, written, verified, oldWritten, heldTurn, splitTurn, turn}
 use Rattle.spec.specs.Run.{tableAfter, fileAfter, rowOf, stageOf, step, start}
 use Rattle.spec.specs.Proper.{PageOk, Fit, FileOk}
 use Rattle.spec.specs.Claims.{stateAt}
@@ -38,6 +38,7 @@ use Rattle.laws.specs.Turns.Work.{Plan}
 use Rattle.laws.specs.Turns.States.{who, stateAt-suc, stateAt-zero}
 use Rattle.laws.specs.Turns.Whole.{whole}
 use Rattle.laws.specs.Turns.Frozen.{split-page, held-page}
+use Rattle.laws.specs.Turns.Decision.{Decision, searching, refusedMissing, refusedThere, toStore, toStrike, toSplit, decision}
 
 abbrev pub FullPage : File → ℕ → Type 0
 FullPage f x = f .c ≤ length (pageAt f x .records)
@@ -98,19 +99,14 @@ module _ (s : State) (op : Op) where
   looked-full x none = tt
   looked-full x (some r) = tt
 
-  placed-full : (x : ℕ) → After (placed s op x (pageAt (s .file) x))
-  unfolding placed pageAt tableAfter
-  placed-full x =
-      if-case After (λ a. tt) (λ a. if-case After (λ b. tt) (λ b. if-case After (λ c. tt) (λ c. ltb-false _ _ a)))
-
-  decided-full : (x : ℕ) (k : Kind) (o : Option Rec) → After (decided s op k (foundOf x o))
-  unfolding decided foundOf
-  decided-full x Search none = tt
-  decided-full x Search (some r) = tt
-  decided-full x Insert none = placed-full x
-  decided-full x Insert (some r) = tt
-  decided-full x Delete none = tt
-  decided-full x Delete (some r) = tt
+  decided-full : {x : ℕ} {o : Option Rec} {m : Move} → Decision s op x o m → After m
+  unfolding pageAt tableAfter
+  decided-full (searching e) = tt
+  decided-full (refusedMissing l y) = tt
+  decided-full (refusedThere l y) = tt
+  decided-full (toStore i l) = tt
+  decided-full (toStrike e t) = tt
+  decided-full (toSplit i l d u) = l
 
   written-full : (x : ℕ) (k : Kind) → After (written s op x k (pageAt (s .file) x))
   unfolding written
@@ -122,7 +118,7 @@ module _ (s : State) (op : Op) where
   unfolding heldTurn verified oldWritten
   held-full x Verify = if-case After (λ e. tt) (λ e. tt)
   held-full x (Release y) = tt
-  held-full x Decide = decided-full x _ _
+  held-full x Decide = decided-full (decision s op x _)
   held-full x WritePage = written-full x _
   held-full x WriteOld = tt
   held-full x Unlock = tt

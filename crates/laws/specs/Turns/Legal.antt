@@ -9,7 +9,7 @@ use native.Mathlib.Omega.{arith}
 use lib.ListN.{length, getD}
 use lib.Seq.{getD-set-other}
 use lib.Dec.{ltb}
-use borrow.Author.Tests.{ltb-true, ltb-false}
+use borrow.Author.Tests.{ltb-true}
 use Rattle.spec.specs.declared.Rec.{Rec}
 use Rattle.spec.specs.declared.Op.{Op}
 use Rattle.spec.specs.declared.Kind.{Kind}
@@ -24,7 +24,7 @@ use Rattle.spec.specs.Basics.{if}
 use Rattle.spec.specs.File.{Page, zeroPage, pageAt, entryAt, foundOf}
 use Rattle.spec.specs.Job.{noOp}
 use Rattle.spec.specs.State.{State, Answer, same, Move, go, goLock, goPage}
-use Rattle.spec.specs.Turn.{homeOf, entryOf, recOf, planOf, newCount, goesTo, begin, looked, reread, placed, decided, written, verified, oldWritten, heldTurn, entriesFrom, splitTurn, turn}
+use Rattle.spec.specs.Turn.{homeOf, entryOf, recOf, planOf, newCount, goesTo, begin, looked, reread, written, verified, oldWritten, heldTurn, entriesFrom, splitTurn, turn}
 use Rattle.spec.specs.Run.{tableAfter, fileAfter, stageOf, idle, step}
 use Rattle.spec.specs.Proper.{PageNo}
 use Rattle.laws.specs.Tools.{if-case}
@@ -35,6 +35,7 @@ use Rattle.laws.specs.Turns.Rows.{step-case}
 use Rattle.laws.specs.Turns.Locks.{Holds, Frees}
 use Rattle.laws.specs.Turns.Plans.{plan-same, entries-case}
 use Rattle.laws.specs.Turns.Good.{Planned, FineTask, FinePart, Fine, Legal, Good, planned-after, fine-part, fine-after, held-no, act-good, tick-good, goes-span}
+use Rattle.laws.specs.Turns.Decision.{Decision, searching, refusedMissing, refusedThere, toStore, toStrike, toSplit, decision}
 
 module _ (ops : List Op) (s : State) (op : Op) (good : Good ops s) where
   abbrev L : Stage → Move → Type 0
@@ -142,26 +143,16 @@ module _ (ops : List Op) (s : State) (op : Op) (good : Good ops s) where
         entry = tt;
       }
 
-  placed-legal : (x : ℕ) → PageNo (s .file) x → L (Held x Decide) (placed s op x (pageAt (s .file) x))
-  unfolding placed newCount planOf
-  placed-legal x h =
-      if-case (L (Held x Decide)) (λ a. calm (λ p. Iff·rfl) (h, tt))
-      (λ a.
-      if-case (L (Held x Decide)) (λ b. calm (λ p. Iff·rfl) (h, tt))
-      (λ b.
-      if-case (L (Held x Decide)) (λ c. calm (λ p. Iff·rfl) (h, tt))
-      (λ c.
-      let w = count-full (s .file .c) (s .file .g) (pageAt (s .file) x) (recOf op) (ltb-false _ _ a) in
-      claim-legal x _ h refl (omega arith) (ltb-false _ _ c))))
-
-  decided-legal : (x : ℕ) (k : Kind) (o : Option Rec) → PageNo (s .file) x → L (Held x Decide) (decided s op k (foundOf x o))
-  unfolding decided foundOf
-  decided-legal x Search none h = calm (λ p. Iff·rfl) (h, tt)
-  decided-legal x Search (some r) h = calm (λ p. Iff·rfl) (h, tt)
-  decided-legal x Insert none h = placed-legal x h
-  decided-legal x Insert (some r) h = calm (λ p. Iff·rfl) (h, tt)
-  decided-legal x Delete none h = calm (λ p. Iff·rfl) (h, tt)
-  decided-legal x Delete (some r) h = calm (λ p. Iff·rfl) (h, tt)
+  decided-legal : {x : ℕ} {o : Option Rec} {m : Move} → PageNo (s .file) x → Decision s op x o m → L (Held x Decide) m
+  unfolding newCount planOf
+  decided-legal h (searching e) = calm (λ p. Iff·rfl) (h, tt)
+  decided-legal h (refusedMissing l y) = calm (λ p. Iff·rfl) (h, tt)
+  decided-legal h (refusedThere l y) = calm (λ p. Iff·rfl) (h, tt)
+  decided-legal h (toStore i l) = calm (λ p. Iff·rfl) (h, tt)
+  decided-legal h (toStrike e t) = calm (λ p. Iff·rfl) (h, tt)
+  decided-legal {x} h (toSplit i l d u) =
+      let w = count-full (s .file .c) (s .file .g) (pageAt (s .file) x) (recOf op) l in
+      claim-legal x _ h refl (omega arith) u
 
   page-legal : (x : ℕ) (t : Task) (a : Answer) (q : Page) → PageNo (s .file) x → L (Held x t) (goPage (Held x Unlock) a x q)
   page-legal x t a q h =
@@ -240,7 +231,7 @@ module _ (ops : List Op) (s : State) (op : Op) (good : Good ops s) where
   held-legal x Verify h k =
       if-case (L (Held x Verify)) (λ e. calm (λ p. Iff·rfl) (h, tt)) (λ e. calm (λ p. Iff·rfl) (h, entry-no))
   held-legal x (Release y) h k = unlock-legal x (Release y) (Lock y) (λ p e. e) k
-  held-legal x Decide h k = decided-legal x _ _ h
+  held-legal x Decide h k = decided-legal h (decision s op x _)
   held-legal x WritePage h k = written-legal x _ _ h
   held-legal x WriteOld h k = page-legal x WriteOld _ _ h
   held-legal x Unlock h k = unlock-legal x Unlock Done (λ p e. e) tt

@@ -23,13 +23,14 @@ use Rattle.spec.specs.Job.{Job, noOp}
 use Rattle.spec.specs.Split.{withBit, half, added, Grown, grow}
 use Rattle.spec.specs.Code.{stored}
 use Rattle.spec.specs.State.{Row, State, Answer, same, answer, PageWrite, Move, gone, go}
-use Rattle.spec.specs.Turn.{recOf, planOf, begin, looked, reread, placed, decided, struck, cleared, written, verified, oldWritten, heldTurn, splitTurn, turn}
+use Rattle.spec.specs.Turn.{recOf, planOf, begin, looked, reread, struck, cleared, written, verified, oldWritten, heldTurn, splitTurn, turn}
 use Rattle.spec.specs.Run.{tableAfter, chargeAfter, rowAfter, rowOf, stageOf, tick, act, step, start, run}
 use Rattle.laws.specs.Tools.{if-case, first, rest, each-or, set-all, filter-each}
 use Rattle.laws.specs.Turns.Records.{find-each}
 use Rattle.laws.specs.Turns.CallsRise.{put-each}
 use Rattle.laws.specs.Turns.Grow.{joined-each}
 use Rattle.laws.specs.Turns.Rows.{still, step-case, steps-keep, first-row}
+use Rattle.laws.specs.Turns.Decision.{Decision, searching, refusedMissing, refusedThere, toStore, toStrike, toSplit, decision}
 
 module _ (P : Rec → Type 0) where
   abbrev EachOf : Page → Type 0
@@ -83,22 +84,13 @@ module _ (P : Rec → Type 0) where
       looked-all x none e = calm tt
       looked-all x (some r) e = calm (of-rec r (find-each _ (op .call) r (all x) e))
 
-      placed-all : (x : ℕ) (p : Page) → M (placed s op x p)
-      unfolding placed
-      placed-all x p =
-          if-case M (λ a. calm tt)
-          (λ a.
-          if-case M (λ b. calm none-charge)
-          (λ b. if-case M (λ c. calm none-charge) (λ c. calm tt)))
-
-      decided-all : (x : ℕ) (k : Kind) (o : Option Rec) → findIn (pageAt (s .file) x .records) (op .call) ≡ o → M (decided s op k (foundOf x o))
-      unfolding decided foundOf
-      decided-all x Search none e = calm tt
-      decided-all x Search (some r) e = calm tt
-      decided-all x Insert none e = placed-all x _
-      decided-all x Insert (some r) e = calm (of-rec r (find-each _ (op .call) r (all x) e))
-      decided-all x Delete none e = calm none-charge
-      decided-all x Delete (some r) e = calm tt
+      decided-all : {x : ℕ} {o : Option Rec} {m : Move} → findIn (pageAt (s .file) x .records) (op .call) ≡ o → Decision s op x o m → M m
+      decided-all e (searching k) = calm tt
+      decided-all e (refusedMissing l y) = calm none-charge
+      decided-all {x} e (refusedThere {r} l y) = calm (of-rec r (find-each _ (op .call) r (all x) e))
+      decided-all e (toStore i l) = calm tt
+      decided-all e (toStrike k t) = calm tt
+      decided-all e (toSplit i l d u) = calm tt
 
       struck-all : (x : ℕ) (o : Option Rec) → findIn (pageAt (s .file) x .records) (op .call) ≡ o → Charged (struck (s .now) (foundOf x o))
       unfolding struck foundOf
@@ -122,7 +114,7 @@ module _ (P : Rec → Type 0) where
       unfolding heldTurn verified oldWritten
       held-all x Verify = if-case M (λ e. calm tt) (λ e. calm tt)
       held-all x (Release y) = calm tt
-      held-all x Decide = decided-all x _ _ refl
+      held-all x Decide = decided-all refl (decision s op x _)
       held-all x WritePage = written-all x _
       held-all x WriteOld = record { page = first (plan-all x); charge = stored-all _ _ }
       held-all x Unlock = calm tt

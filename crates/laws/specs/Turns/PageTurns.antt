@@ -8,7 +8,6 @@ use mathlib.Core.Option.{Option, none, some}
 use native.Mathlib.Omega.{arith}
 use native.Mathlib.Decide.{ℕ-discrete, decLt}
 use lib.ListN.{length, List·getD-eq-default}
-use borrow.Author.Tests.{ltb-true}
 use Rattle.spec.specs.declared.Rec.{Rec}
 use Rattle.spec.specs.declared.Op.{Op}
 use Rattle.spec.specs.declared.Kind.{Kind}
@@ -21,10 +20,9 @@ use Rattle.spec.specs.File.{Page, File, pageAt, entryAt, findIn, foundOf}
 use Rattle.spec.specs.Code.{deleted}
 use Rattle.spec.specs.Split.{added}
 use Rattle.spec.specs.State.{State, Answer, same, Move, go, goPage}
-use Rattle.spec.specs.Turn.{homeOf, recOf, begin, looked, placed, decided, struck, cleared, written}
+use Rattle.spec.specs.Turn.{homeOf, recOf, begin, looked, struck, cleared, written}
 use Rattle.spec.specs.Run.{tableAfter, directoryAfter, fileAfter}
 use Rattle.spec.specs.Proper.{In, PageNo, PageOk}
-use Rattle.laws.specs.Tools.{if-case}
 use Rattle.laws.specs.Turns.Prefix.{fit-32}
 use Rattle.laws.specs.Turns.Records.{without-own, without-other}
 use Rattle.laws.specs.Turns.CallsRise.{put-other, put-own}
@@ -34,8 +32,9 @@ use Rattle.laws.specs.Turns.Rows.{still}
 use Rattle.laws.specs.Turns.Good.{Good, page-lt}
 use Rattle.laws.specs.Turns.Work.{WorkTask, Work}
 use Rattle.laws.specs.Turns.Lookup.{lookup, lookup-at, page-not, page-dir, page-same, page-home, page-lookup, page-own}
-use Rattle.laws.specs.Turns.Says.{isStored, isThere, isDeleted, isAbsent, isNoDepth, isNoPage}
+use Rattle.laws.specs.Turns.Says.{isStored, isDeleted}
 use Rattle.laws.specs.Turns.Does.{Own, quiet, sees, says, storing, deciding, writing, Coherent, Starts, Sub, Does}
+use Rattle.laws.specs.Turns.Decision.{Decision, searching, refusedMissing, refusedThere, toStore, toStrike, toSplit}
 
 module _ (ops : List Op) (s : State) (op : Op) (good : Good ops s) (coherent : Coherent ops s) where
   abbrev f : File
@@ -133,34 +132,24 @@ module _ (ops : List Op) (s : State) (op : Op) (good : Good ops s) (coherent : C
     unfolding homeOf
     mine = rw at at (coherent .home (op .call))
 
-    placed-does : op .kind ≡ Insert → findIn (pageAt f x .records) (op .call) ≡ none → D (Held x Decide) (placed s op x (pageAt f x))
-    unfolding placed homeOf entryAt pageAt tableAfter directoryAfter
-    placed-does i n =
-        if-case (D (Held x Decide)) (λ a. calm (at, λ k. (n, ltb-true _ _ a), λ k. absurd (not-both i k)) (quiet refl) refl)
-        (λ a.
-        if-case (D (Held x Decide)) (λ b. calm tt (says (omega arith) at deciding (isNoDepth i (here ∙ n) refl)) tt)
-        (λ b.
-        if-case (D (Held x Decide)) (λ c. calm tt (says (omega arith) at deciding (isNoPage i (here ∙ n) refl)) tt)
-        (λ c.
+    pub decided-does
+        : {o : Option Rec} {m : Move}
+        → findIn (pageAt f x .records) (op .call) ≡ o
+        → Decision s op x o m
+        → D (Held x Decide) m
+    unfolding homeOf entryAt pageAt tableAfter directoryAfter
+    decided-does h (searching e) = calm tt (quiet refl) tt
+    decided-does h (refusedMissing l y) = calm tt (says (omega arith) at deciding (rw (here ∙ h) y)) tt
+    decided-does h (refusedThere l y) = calm tt (says (omega arith) at deciding (rw (here ∙ h) y)) tt
+    decided-does h (toStore i l) = calm (at, λ k. (h, l), λ k. absurd (not-both i k)) (quiet refl) refl
+    decided-does h (toStrike {r} e t) = calm (at, λ k. absurd (not-both k e), λ k. (r, h, t)) (quiet refl) refl
+    decided-does h (toSplit i l d u) =
         calm (
-          record { kind = i; here = mine; absent = n; depth = not-allShare (f .g) _ (op .call) (fit-32 f (good .fit)) b },
+          record { kind = i; here = mine; absent = h; depth = not-allShare (f .g) _ (op .call) (fit-32 f (good .fit)) d },
           (at, λ m l. absurd (omega arith), λ e w. let t = dir-top e in omega arith),
         )
         (quiet refl)
-        (λ p w. inr (omega arith)))))
-
-    pub decided-does
-        : (k : Kind) (o : Option Rec)
-        → op .kind ≡ k
-        → findIn (pageAt f x .records) (op .call) ≡ o
-        → D (Held x Decide) (decided s op k (foundOf x o))
-    unfolding decided foundOf homeOf entryAt pageAt tableAfter directoryAfter
-    decided-does Search none e h = calm tt (quiet refl) tt
-    decided-does Search (some r) e h = calm tt (quiet refl) tt
-    decided-does Insert none e h = placed-does e h
-    decided-does Insert (some r) e h = calm tt (says (omega arith) at deciding (isThere r e (here ∙ h) refl)) tt
-    decided-does Delete none e h = calm tt (says (omega arith) at deciding (isAbsent e (here ∙ h) refl)) tt
-    decided-does Delete (some r) e h = calm (at, λ k. absurd (not-both k e), λ k. (r, h)) (quiet refl) refl
+        (λ p w. inr (omega arith))
 
     in-x : (k : ℕ) → entryAt f (index (f .g) k) ≡ x → In (pageAt f x) k
     in-x k e = rw e at (coherent .home k)
@@ -189,7 +178,7 @@ module _ (ops : List Op) (s : State) (op : Op) (good : Good ops s) (coherent : C
         (λ k n d. without-other (pageAt f x .records) (op .call) k n)
         (rw (h .1)
         (says {k = deleted} (omega arith) at writing
-        (isDeleted (h .0) e (here ∙ h .1)
+        (isDeleted (h .0) e (here ∙ h .1) (h .2)
         (page-own f x _ (page-lt f (good .fit) x (l .1)) (op .call) at ∙ without-own (pageAt f x .records) (op .call)))))
         (inr (λ k r u n. sym (without-other (pageAt f x .records) (op .call) k (λ z. n (rw z at))) ∙ u))
         tt

@@ -21,7 +21,7 @@ use Rattle.spec.specs.PlainList.{Plain, turnedDown, plainStep}
 use Rattle.laws.specs.Tools.{if-case}
 use Rattle.laws.specs.Turns.Records.{added-other, added-own, without-own, without-other}
 use Rattle.laws.specs.Turns.Rows.{code-row}
-use Rattle.laws.specs.Turns.Says.{Says, isFound, isNone, isStored, isThere, isDeleted, isAbsent, isNoDepth, isNoPage, Changes, changes-code, says-change}
+use Rattle.laws.specs.Turns.Says.{Says, isFound, isNone, isStored, isThere, isDeleted, isAbsent, isNoDepth, isNoPage, isDiffering, Changes, changes-code, says-change}
 use Rattle.laws.specs.Turns.History.{RowRight}
 use Rattle.laws.specs.Turns.Account.{Mut, Account}
 use Rattle.laws.specs.Turns.Log.{Marked, marked, unmarked}
@@ -46,11 +46,12 @@ ask op a b k c l (isNone i j e) q = rw (i, q ∙ j) (refl, refl, inl (refl, ⊎-
 ask op a b k c l (isStored i j e) q =
     rw (i, q ∙ j) (refl, refl, inr (inl refl, added-own l (recOf op) (q ∙ j) ∙ sym e, λ m n. added-other l (recOf op) m n))
 ask op a b k c l (isThere r i j e) q = rw (i, q ∙ j) (refl, refl, inl (refl, ⊎-elim (λ w. omega arith) (λ w. omega arith)))
-ask op a b k c l (isDeleted r i j e) q =
-    rw (i, q ∙ j) (refl, refl, inr (inr refl, without-own l (op .call) ∙ sym e, λ m n. without-other l (op .call) m n))
+ask op a b k c l (isDeleted r i j t e) q =
+    rw (i, q ∙ j, t) (refl, refl, inr (inr refl, without-own l (op .call) ∙ sym e, λ m n. without-other l (op .call) m n))
 ask op a b k c l (isAbsent i j e) q = rw (i, q ∙ j) (refl, refl, inl (refl, ⊎-elim (λ w. omega arith) (λ w. omega arith)))
 ask op a b k c l (isNoDepth i j e) q = rw (i, q ∙ j) (refl, refl, inl (refl, ⊎-elim (λ w. omega arith) (λ w. omega arith)))
 ask op a b k c l (isNoPage i j e) q = rw (i, q ∙ j) (refl, refl, inl (refl, ⊎-elim (λ w. omega arith) (λ w. omega arith)))
+ask op a b k c l (isDiffering r i j t e) q = rw (i, q ∙ j, t) (refl, refl, inl (refl, ⊎-elim (λ w. omega arith) (λ w. omega arith)))
 
 -- it makes no difference to an answer that changes nothing whether it is asked before the moment's change or after
 says-before

@@ -3,6 +3,7 @@
 use Prim.Native.Nat.{ℕ, suc, _+_, _^_, _<_, _≤_}
 use mathlib.Core.Path.{_≡_, refl, sym, ap, _∙_}
 use mathlib.Core.Logic.{_⊎_, inl, inr, _↔_, Iff·rfl, by-cases}
+use mathlib.Core.Bool.{true}
 use mathlib.Core.Option.{Option, none, some}
 use native.Mathlib.Omega.{arith}
 use native.Mathlib.Decide.{ℕ-discrete, decLt}
@@ -18,6 +19,7 @@ use Rattle.spec.specs.declared.Part.the-variants.{WriteNew, WriteEntry, UnlockN
 use Rattle.spec.specs.declared.Stage.{Stage}
 use Rattle.spec.specs.declared.Stage.the-variants.{NotBegun, ReadPage, Reread, Lock, Held, Split, Done}
 use Rattle.spec.specs.File.{File, zeroPage, pageAt, entryAt, findIn}
+use Rattle.spec.specs.Job.{strikes}
 use Rattle.spec.specs.Split.{Grown, leastShared}
 use Rattle.spec.specs.State.{EntryWrite, Move}
 use Rattle.spec.specs.Turn.{homeOf, planOf, goesTo}
@@ -53,7 +55,7 @@ WorkTask f op x Decide = entryAt f (homeOf f op) ≡ x
 WorkTask f op x WritePage =
     (entryAt f (homeOf f op) ≡ x)
     × (op .kind ≡ Insert → (findIn (pageAt f x .records) (op .call) ≡ none) × (length (pageAt f x .records) < f .c))
-    × (op .kind ≡ Delete → (r : Rec) × (findIn (pageAt f x .records) (op .call) ≡ some r))
+    × (op .kind ≡ Delete → (r : Rec) × (findIn (pageAt f x .records) (op .call) ≡ some r) × (strikes (op .charge) (r .charge) ≡ true))
 WorkTask f op x WriteOld = Plan f op x × Moving f op x (2 ^ f .g)
 WorkTask f op x Unlock = Unit {0}
 

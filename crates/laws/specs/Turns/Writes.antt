@@ -23,7 +23,7 @@ use Rattle.spec.specs.File.{Page, File, zeroPage, pageAt, entryAt, foundOf}
 use Rattle.spec.specs.Job.{noOp}
 use Rattle.spec.specs.Split.{added}
 use Rattle.spec.specs.State.{State, Answer, same, PageWrite, EntryWrite, Move, go}
-use Rattle.spec.specs.Turn.{planOf, newCount, goesTo, begin, looked, reread, placed, decided, cleared, written, verified, oldWritten, heldTurn, splitTurn, turn}
+use Rattle.spec.specs.Turn.{planOf, newCount, goesTo, begin, looked, reread, cleared, written, verified, oldWritten, heldTurn, splitTurn, turn}
 use Rattle.spec.specs.Run.{stageOf}
 use Rattle.spec.specs.Proper.{In}
 use Rattle.laws.specs.Tools.{if-case, first, rest, each-at}
@@ -38,6 +38,7 @@ use Rattle.laws.specs.Turns.Does.{Coherent, Unreached, fresh}
 use Rattle.laws.specs.Turns.Owned.{Stay, OwnsTask, Owns}
 use Rattle.laws.specs.Turns.Settled.{Settled}
 use Rattle.laws.specs.Turns.Depths.{plan-low, plan-deeper}
+use Rattle.laws.specs.Turns.Decision.{Decision, searching, refusedMissing, refusedThere, toStore, toStrike, toSplit, decision}
 
 -- page q of a file begins entry e: its pattern does
 abbrev pub BeginsAt : File → Page → ℕ → Type 0
@@ -93,20 +94,13 @@ module _ (ops : List Op) (s : State) (op : Op) (good : Good ops s) (coherent : C
   looked-writes x none = calm
   looked-writes x (some r) = calm
 
-  placed-writes : (x : ℕ) (p : Page) → W (Held x Decide) (placed s op x p)
-  unfolding placed
-  placed-writes x p =
-      if-case (W (Held x Decide)) (λ a. calm)
-      (λ a. if-case (W (Held x Decide)) (λ b. calm) (λ b. if-case (W (Held x Decide)) (λ c. calm) (λ c. calm)))
-
-  decided-writes : (x : ℕ) (k : Kind) (o : Option Rec) → W (Held x Decide) (decided s op k (foundOf x o))
-  unfolding decided foundOf
-  decided-writes x Search none = calm
-  decided-writes x Search (some r) = calm
-  decided-writes x Insert none = placed-writes x _
-  decided-writes x Insert (some r) = calm
-  decided-writes x Delete none = calm
-  decided-writes x Delete (some r) = calm
+  decided-writes : {x : ℕ} {o : Option Rec} {m : Move} → Decision s op x o m → W (Held x Decide) m
+  decided-writes (searching e) = calm
+  decided-writes (refusedMissing l y) = calm
+  decided-writes (refusedThere l y) = calm
+  decided-writes (toStore i l) = calm
+  decided-writes (toStrike e t) = calm
+  decided-writes (toSplit i l d u) = calm
 
   written-writes : (x : ℕ) (k : Kind) → W (Held x WritePage) (written s op x k (pageAt f x))
   unfolding written added cleared
@@ -154,7 +148,7 @@ module _ (ops : List Op) (s : State) (op : Op) (good : Good ops s) (coherent : C
   unfolding heldTurn verified
   held-writes x Verify w u = if-case (W (Held x Verify)) (λ e. calm) (λ e. calm)
   held-writes x (Release y) w u = calm
-  held-writes x Decide w u = decided-writes x _ _
+  held-writes x Decide w u = decided-writes (decision s op x _)
   held-writes x WritePage w u = written-writes x _
   held-writes x WriteOld w u = old-writes x (w .0) u
   held-writes x Unlock w u = calm

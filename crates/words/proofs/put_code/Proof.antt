@@ -71,6 +71,12 @@ slice-aggregate-put-bytes-10 c = refl
 put-bytes-requires-10 : tie.Need-put-bytes-requires-10
 put-bytes-requires-10 c κs = omega arith
 
+slice-aggregate-put-bytes-11 : tie.Need-slice-aggregate-put-bytes-11
+slice-aggregate-put-bytes-11 c = refl
+
+put-bytes-requires-11 : tie.Need-put-bytes-requires-11
+put-bytes-requires-11 c κs = omega arith
+
 same-length : tie.Need-same-length
 same-length c = search needs
 
@@ -139,10 +145,17 @@ same-length-10 c = search needs
 
 returns-10 : tie.Need-returns-10
 unfolding text codeWord
-returns-10 c =
+returns-10 c = rw (c .before .before .before .before .before .match .keys10) (wider (omega arith) (c .before .before .put-bytes10 .ensures))
+
+same-length-11 : tie.Need-same-length-11
+same-length-11 c = search needs
+
+returns-11 : tie.Need-returns-11
+unfolding text codeWord
+returns-11 c =
     let no = c .before .before .before .before .before .match .rest in
-    let high : 9 ≤ c .before .before .before .before .before .before .before .args .code = past (past (past (past (past (past (past (past (past zero-le (no .0 .0 .0 .0 .0 .0 .0 .0 .1)) (no .0 .0 .0 .0 .0 .0 .0 .1)) (no .0 .0 .0 .0 .0 .0 .1)) (no .0 .0 .0 .0 .0 .1)) (no .0 .0 .0 .0 .1)) (no .0 .0 .0 .1)) (no .0 .0 .1)) (no .0 .1)) (no .1) in
-    rw (List·getD-eq-default codeWords [] {n = c .before .before .before .before .before .before .before .args .code}) (wider (omega arith) (c .before .before .put-bytes10 .ensures))
+    let high : 10 ≤ c .before .before .before .before .before .before .before .args .code = past (past (past (past (past (past (past (past (past (past zero-le (no .0 .0 .0 .0 .0 .0 .0 .0 .0 .1)) (no .0 .0 .0 .0 .0 .0 .0 .0 .1)) (no .0 .0 .0 .0 .0 .0 .0 .1)) (no .0 .0 .0 .0 .0 .0 .1)) (no .0 .0 .0 .0 .0 .1)) (no .0 .0 .0 .0 .1)) (no .0 .0 .0 .1)) (no .0 .0 .1)) (no .0 .1)) (no .1) in
+    rw (List·getD-eq-default codeWords [] {n = c .before .before .before .before .before .before .before .args .code}) (wider (omega arith) (c .before .before .put-bytes11 .ensures))
 
 pub put-code-spec : {M : Type 1} → statement M
 put-code-spec =
@@ -168,6 +181,8 @@ put-code-spec =
     put-bytes-requires-9
     slice-aggregate-put-bytes-10
     put-bytes-requires-10
+    slice-aggregate-put-bytes-11
+    put-bytes-requires-11
     same-length
     returns
     same-length-2
@@ -187,4 +202,6 @@ put-code-spec =
     same-length-9
     returns-9
     same-length-10
-    returns-10)
+    returns-10
+    same-length-11
+    returns-11)

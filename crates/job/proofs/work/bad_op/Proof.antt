@@ -24,14 +24,14 @@ returns-3 c = let q2 = c .before .before in let q1 = q2 .before in rw (← q1 .b
 
 returns-4 : tie.Need-returns-4
 unfolding badOp outside
-returns-4 c = let q3 = c .before in let q2 = q3 .before .before in let q1 = q2 .before in rw (← q1 .before .u8-at .ensures .0, le-ltb _ _ (q1 .if1 .left), le-ltb _ _ (q2 .if2 .left), ← q3 .before .u8-at2 .ensures .0, eq-eqb _ _ (q3 .if3 .left), eq-eqb _ _ (c .if4 .taken))
+returns-4 c = let q3 = c .before in let q2 = q3 .before .before in let q1 = q2 .before in rw (← q1 .before .u8-at .ensures .0, le-ltb _ _ (q1 .if1 .left), le-ltb _ _ (q2 .if2 .left), ← q3 .before .u8-at2 .ensures .0, eq-eqb _ _ (q3 .if3 .left), ne-eqb _ _ (c .if4 .taken))
 
 u32-at-requires : tie.Need-u32-at-requires
 u32-at-requires c κs = omega arith
 
 returns-5 : tie.Need-returns-5
 unfolding badOp outside
-returns-5 c = let q4 = c .before in let q3 = q4 .before in let q2 = q3 .before .before in let q1 = q2 .before in rw (← q1 .before .u8-at .ensures .0, le-ltb _ _ (q1 .if1 .left), le-ltb _ _ (q2 .if2 .left), ← q3 .before .u8-at2 .ensures .0, eq-eqb _ _ (q3 .if3 .left), ne-eqb _ _ (q4 .if4 .left), c .u32-at .ensures)
+returns-5 c = let q4 = c .before in let q3 = q4 .before in let q2 = q3 .before .before in let q1 = q2 .before in rw (← q1 .before .u8-at .ensures .0, le-ltb _ _ (q1 .if1 .left), le-ltb _ _ (q2 .if2 .left), ← q3 .before .u8-at2 .ensures .0, eq-eqb _ _ (q3 .if3 .left), eq-eqb _ _ (q4 .if4 .left), c .u32-at .ensures)
 
 pub bad-op-spec : {M : Type 1} → statement M
 bad-op-spec =

@@ -38,8 +38,8 @@ enum-told-3 c = search needs
 enum-known-found-3 : tie.Need-enum-known-found-3
 enum-known-found-3 c = search needs
 
-moved-requires-2 : tie.Need-moved-requires-2
-moved-requires-2 c κs = search needs
+at-charge-requires : tie.Need-at-charge-requires
+at-charge-requires c κs = search needs
 
 enum-known-found-4 : tie.Need-enum-known-found-4
 enum-known-found-4 c = search needs
@@ -76,7 +76,7 @@ same-length-4 c = search needs
 returns-4 : tie.Need-returns-4
 unfolding memDecided
 returns-4 c =
-    rw (c .moved2 .ensures, c .before .before .before .before .enum-told3 .given .1, sym (c .before .before .before .before .before .before .find-in .ensures) ∙ c .before .before .found3 .given .1)
+    rw (c .at-charge .ensures, c .before .before .before .before .enum-told3 .given .1, sym (c .before .before .before .before .before .before .find-in .ensures) ∙ c .before .before .found3 .given .1)
 
 same-length-5 : tie.Need-same-length-5
 same-length-5 c = search needs
@@ -100,7 +100,7 @@ decide-spec =
     place-requires
     enum-told-3
     enum-known-found-3
-    moved-requires-2
+    at-charge-requires
     enum-known-found-4
     settled-requires-2
     same-length
