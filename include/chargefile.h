@@ -211,7 +211,7 @@ static inline size_t chargefile_result_size(const uint8_t *job, size_t job_lengt
  *    8   a call is in the wrong page, or is not above the call of    the record
  *        the record before it in the page
  *    9   a kind is not 1 to 3, or a spare byte is not zero, or the   the operation
- *        charge of a search or a delete is not zero
+ *        charge of a search is not zero
  *   10   a turn names no operation of the job                        the turn
  *   18   operations are present: a charge file has none              their count, 8
  *   19   the wanted depth is above 8, or below the depth of a page   0
@@ -246,7 +246,10 @@ enum chargefile_small {
     CHARGEFILE_SMALL_MEMORY = 2                        /* under CHARGEFILE_MEMORY_SIZE bytes */
 };
 
-/* ---- Operations and their answers. */
+/*
+ * ---- Operations and their answers. The charge of an insert is stored with the call. That of a
+ * delete is the only one at which the call is struck out; 0 stands for any. That of a search is 0.
+ */
 
 enum chargefile_kind {
     CHARGEFILE_SEARCH = 1,
@@ -254,7 +257,8 @@ enum chargefile_kind {
     CHARGEFILE_DELETE = 3
 };
 
-/* An answer's charge is the record's for found, stored, already there and deleted, else 0. */
+/* An answer's charge is the record's for found, stored, already there, deleted and differs, and 0
+ * for the others. */
 enum chargefile_code {
     CHARGEFILE_NOT_YET = 0, /* the operation's moment is not known: it has no line in the log */
     CHARGEFILE_FOUND = 1,
@@ -264,7 +268,8 @@ enum chargefile_code {
     CHARGEFILE_DELETED = 5,
     CHARGEFILE_ABSENT = 6,   /* a delete that found nothing */
     CHARGEFILE_NO_DEPTH = 7, /* the page is full, and no split can part its calls */
-    CHARGEFILE_NO_PAGE = 8   /* the page is full, and too few pages are left to split it */
+    CHARGEFILE_NO_PAGE = 8,  /* the page is full, and too few pages are left to split it */
+    CHARGEFILE_DIFFERS = 9   /* a delete that found the call at another charge: nothing changes */
 };
 
 /*
@@ -278,8 +283,8 @@ enum chargefile_code {
  *   stored, with a split                the page that took the call: the one that was split, or the
  *                                       new page that the call's own entry then names
  *   deleted                             the page that the delete read and wrote
- *   already there, absent, no depth,    the page that the operation read when it decided
- *   no page
+ *   already there, absent, differs,     the page that the operation read when it decided
+ *   no depth, no page
  *
  * It is told as of the answer's moment, and for a search as of its reading. In the charge file the
  * call may stand in another page, or in none: a later split may have moved it, a delete may have

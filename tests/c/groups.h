@@ -10,6 +10,7 @@ void record_tests(void);     /* row 8: calls that belong in their page, and rise
 void output_tests(void);     /* row 11, and what is lent */
 void kept_tests(void);       /* a refused job has written nothing, whatever its refusal */
 void result_tests(void);     /* what a run writes */
+void delete_tests(void);     /* a delete at a charge */
 void pages_told_tests(void); /* the page told with an answer */
 void rising_tests(void);     /* where a run puts a record, and where it finds one */
 void tidied_tests(void);     /* what tidying writes */

@@ -104,13 +104,14 @@ static void result_size_of_a_job(void)
 }
 
 /* "Codes: 0 not yet, 1 found, 2 none, 3 stored, 4 already there, 5 deleted, 6 absent, 7 no depth,
- * 8 no page." "kind (1 search, 2 insert, 3 delete)" */
+ * 8 no page", and "the answer is 9, "differs"". "kind (1 search, 2 insert, 3 delete)" */
 static void codes_and_kinds(void)
 {
     static const unsigned codes[] = {
         CHARGEFILE_NOT_YET, CHARGEFILE_FOUND,         CHARGEFILE_NONE,
         CHARGEFILE_STORED,  CHARGEFILE_ALREADY_THERE, CHARGEFILE_DELETED,
         CHARGEFILE_ABSENT,  CHARGEFILE_NO_DEPTH,      CHARGEFILE_NO_PAGE,
+        CHARGEFILE_DIFFERS,
     };
     for (unsigned i = 0; i < sizeof codes / sizeof codes[0]; i++) {
         EXPECT_EQUAL(codes[i], i);
@@ -174,7 +175,7 @@ static void answer_fields(void)
 /* Every code with every byte, from C and from C++. */
 static void page_of_an_answer(void)
 {
-    for (unsigned code = 0; code <= 8; code++) {
+    for (unsigned code = 0; code <= 9; code++) {
         for (unsigned byte = 0; byte <= 255; byte++) {
             const uint8_t answer[8] = {(uint8_t)code, (uint8_t)byte, 255, 255, 255, 255, 255, 255};
             EXPECT_EQUAL(chargefile_answer_page(answer), code == 0 ? 0 : byte + 1);

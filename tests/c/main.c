@@ -12,6 +12,7 @@ int main(void)
     output_tests();
     kept_tests();
     result_tests();
+    delete_tests();
     pages_told_tests();
     rising_tests();
     tidied_tests();

@@ -25,6 +25,7 @@ static const answered ANSWERED[] = {
     {"page: there", 2, CHARGEFILE_INSERT, 5, 2, {1, 5}, CHARGEFILE_ALREADY_THERE, 2, 4, 5},
     {"page: deleted", 2, CHARGEFILE_DELETE, 5, 2, {1, 5}, CHARGEFILE_DELETED, 2, 5, 6},
     {"page: absent", 2, CHARGEFILE_DELETE, 3, 2, {1, 5}, CHARGEFILE_ABSENT, 2, 4, 5},
+    {"page: differs", 2, CHARGEFILE_DELETE, 5, 2, {1, 5}, CHARGEFILE_DIFFERS, 2, 4, 5},
     {"page: no depth", 2, CHARGEFILE_INSERT, 9, 2, {1, 5}, CHARGEFILE_NO_DEPTH, 2, 4, 5},
     {"page: no page", 2, CHARGEFILE_INSERT, 3, 2, {1, 5}, CHARGEFILE_NO_PAGE, 2, 4, 5},
     /* page 3 on turn 4, entry 3 on turn 5, page 3 unlocked on turn 6, page 2 on turn 7 */
@@ -37,7 +38,17 @@ static job j;
 static int has_charge(unsigned code)
 {
     return code == CHARGEFILE_FOUND || code == CHARGEFILE_STORED ||
-           code == CHARGEFILE_ALREADY_THERE || code == CHARGEFILE_DELETED;
+           code == CHARGEFILE_ALREADY_THERE || code == CHARGEFILE_DELETED ||
+           code == CHARGEFILE_DIFFERS;
+}
+
+/* Of a delete: zero, or another charge than the call has. */
+static uint32_t charge_asked(const answered *of)
+{
+    if (of->kind == CHARGEFILE_INSERT) {
+        return charge_of(of->call);
+    }
+    return of->code == CHARGEFILE_DIFFERS ? charge_of(of->call) + 1 : 0;
 }
 
 static void run_for(const answered *of, unsigned turns)
@@ -45,8 +56,7 @@ static void run_for(const answered *of, unsigned turns)
     counts c = {2, 2, of->pages, 2, 1, turns};
     make_job(&j, c);
     put_calls(&j, 2, 1, 1, of->calls, of->held);
-    put_operation(&j, 0, of->kind, of->call,
-                  of->kind == CHARGEFILE_INSERT ? charge_of(of->call) : 0);
+    put_operation(&j, 0, of->kind, of->call, charge_asked(of));
     expect_run(&j, 0);
 }
 
@@ -77,7 +87,7 @@ static void put_turns(const unsigned *list, unsigned count)
 /* Both operations beside the insert read in their entry that page 1 has call 5. The insert moves it
  * to page 2. The delete locks page 1, lets it go and decides in page 2; the search reads page 1,
  * then page 2. (docs/TURNS.md goes through these turns.) */
-static void three_operations(void)
+static void run_three(uint32_t delete_at)
 {
     static const unsigned list[27] = {1, 2, 0, 0, 1, 0, 0, 0, 0, 0, 0, 0, 0, 2,
                                       1, 0, 1, 1, 1, 2, 1, 1, 1, 2, 1, 1, 2};
@@ -86,13 +96,28 @@ static void three_operations(void)
     make_job(&j, c);
     put_calls(&j, 1, 0, 0, held, 2);
     put_operation(&j, 0, CHARGEFILE_INSERT, 3, charge_of(3));
-    put_operation(&j, 1, CHARGEFILE_DELETE, 5, 0);
+    put_operation(&j, 1, CHARGEFILE_DELETE, 5, delete_at);
     put_operation(&j, 2, CHARGEFILE_SEARCH, 5, 0);
     put_turns(list, 27);
     expect_run(&j, 0);
     expect_answer(0, (answer){CHARGEFILE_STORED, 3, 11, charge_of(3)});
-    expect_answer(1, (answer){CHARGEFILE_DELETED, 2, 9, charge_of(5)});
     expect_answer(2, (answer){CHARGEFILE_FOUND, 2, 4, charge_of(5)});
+}
+
+static void three_operations(void)
+{
+    run_three(0);
+    expect_answer(1, (answer){CHARGEFILE_DELETED, 2, 9, charge_of(5)});
+    expect_line(2, 24, 1);
+}
+
+/* The same with a delete at another charge: it decides on turn 22, and the search finds the call
+ * afterwards. */
+static void three_with_another_charge(void)
+{
+    run_three(charge_of(1));
+    expect_answer(1, (answer){CHARGEFILE_DIFFERS, 2, 8, charge_of(5)});
+    expect_line(1, 22, 1);
 }
 
 /* Insert 3 is stored in page 1; then insert 4 splits that page, and call 3 goes to page 2. Each
@@ -147,6 +172,7 @@ void pages_told_tests(void)
         end_test();
     }
     test("page: three operations at once", three_operations);
+    test("page: three at once, and a charge that differs", three_with_another_charge);
     test("page: a call that is moved on afterwards", moved_on_afterwards);
     test("page: the last there can be", the_last_page);
 }

@@ -47,7 +47,9 @@ static const damage DAMAGES[] = {
     {"refused: a spare byte", OPERATIONS + 1, 1, CHARGEFILE_REFUSED_OPERATION, OPERATIONS},
     {"refused: a search's charge", OPERATIONS + 16, 1, CHARGEFILE_REFUSED_OPERATION,
      OPERATIONS + 10},
-    {"refused: a delete's charge", OPERATIONS + 29, 1, CHARGEFILE_REFUSED_OPERATION,
+    {"refused: the last byte of a search's charge", OPERATIONS + 39, 1,
+     CHARGEFILE_REFUSED_OPERATION, OPERATIONS + 30},
+    {"refused: a delete's spare byte", OPERATIONS + 21, 1, CHARGEFILE_REFUSED_OPERATION,
      OPERATIONS + 20},
     {"refused: the first turn names m", TURNS, 4, CHARGEFILE_REFUSED_TURN, TURNS},
     {"refused: the last turn names 256", TURNS + 39, 1, CHARGEFILE_REFUSED_TURN, TURNS + 38},
@@ -115,6 +117,16 @@ static void last_operation_in_a_turn(void)
     expect_run(&j, 0);
 }
 
+/* A delete may have any charge: each of its four bytes alone. */
+static void charge_of_a_delete(void)
+{
+    for (unsigned byte = 0; byte < 4; byte++) {
+        make_job_e(&j, 20);
+        j.bytes[OPERATIONS + 26 + byte] = 255;
+        expect_run(&j, 0);
+    }
+}
+
 void refusal_tests(void)
 {
     for (unsigned i = 0; i < sizeof DAMAGES / sizeof DAMAGES[0]; i++) {
@@ -130,4 +142,5 @@ void refusal_tests(void)
     test("refused: the lowest number first", lowest_number_first);
     test("refused: the lowest place first", lowest_place_first);
     test("accepted: a turn naming the last operation", last_operation_in_a_turn);
+    test("accepted: the charge of a delete", charge_of_a_delete);
 }

@@ -1,7 +1,7 @@
 //! Answers and log lines ("The result").
 
 /// "Codes: 0 not yet, 1 found, 2 none, 3 stored, 4 already there, 5 deleted,
-/// 6 absent, 7 no depth, 8 no page."
+/// 6 absent, 7 no depth, 8 no page", and "9, 'differs'".
 #[derive(Clone, Copy, Debug, PartialEq, Eq)]
 pub enum Code {
     NotYet,
@@ -13,10 +13,11 @@ pub enum Code {
     Absent,
     NoDepth,
     NoPage,
+    Differs,
 }
 
 /// The codes in the order of their numbers.
-pub const CODES: [Code; 9] = [
+pub const CODES: [Code; 10] = [
     Code::NotYet,
     Code::Found,
     Code::None,
@@ -26,6 +27,7 @@ pub const CODES: [Code; 9] = [
     Code::Absent,
     Code::NoDepth,
     Code::NoPage,
+    Code::Differs,
 ];
 
 impl Code {
@@ -46,12 +48,14 @@ impl Code {
             Code::Absent => "absent",
             Code::NoDepth => "no depth",
             Code::NoPage => "no page",
+            Code::Differs => "differs",
         }
     }
 }
 
 /// An operation's answer: code, the page behind it, "turns used without
-/// waiting", and a charge that is "the record's for 1, 3, 4 and 5, else 0".
+/// waiting", and a charge that is "the record's for 1, 3, 4 and 5", for 9 "the
+/// file's charge", "else 0".
 #[derive(Clone, Copy, Debug, PartialEq, Eq)]
 pub struct Answer {
     pub code: Code,

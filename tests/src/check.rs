@@ -240,7 +240,8 @@ fn record(job: &[u8]) -> Option<usize> {
 }
 
 /// Row 9: "kind not 1 to 3, spare byte or charge not zero where it must be".
-/// The charge must be zero "unless an insert".
+/// The charge must be zero in a search: an insert stores its own, and a delete
+/// can have one, since it "deletes only where the file's charge is equal".
 fn operation(job: &[u8]) -> Option<usize> {
     let counts = Counts::read(job);
     let first = counts.layout().operations;
@@ -250,7 +251,7 @@ fn operation(job: &[u8]) -> Option<usize> {
         let charge = four_at(row, 6);
         match Kind::from_number(row[0]) {
             None => true,
-            Some(kind) => row[1] != 0 || (kind != Kind::Insert && charge != 0),
+            Some(kind) => row[1] != 0 || (kind == Kind::Search && charge != 0),
         }
     })
 }

@@ -11,8 +11,8 @@ use crate::check::{entry_place, page_place};
 use crate::damage_pages;
 use crate::damage_records;
 use crate::job::{
-    Counts, Job, Kind, Layout, HEADER_LENGTH, MAX_CAPACITY, MAX_DEPTH, MAX_OPERATIONS, MAX_PAGES,
-    MAX_TURNS, OPERATION_LENGTH, TURN_LENGTH,
+    Counts, Job, Kind, Layout, Operation, HEADER_LENGTH, MAX_CAPACITY, MAX_DEPTH, MAX_OPERATIONS,
+    MAX_PAGES, MAX_TURNS, OPERATION_LENGTH, TURN_LENGTH,
 };
 use crate::random::Random;
 
@@ -311,12 +311,13 @@ fn operation(random: &mut Random, target: &Target) -> Option<Fault> {
     }
     let i = random.below(target.counts.operations);
     let place = target.layout.operations + OPERATION_LENGTH * i;
+    let Operation { kind, charge, .. } = target.job.operations[i];
     let edit = match random.below(3) {
         0 => (place, random.one_of(&[0, 4, 5, 128, 255])),
         1 => (place + 1, random.nonzero_byte()),
-        _ if target.job.operations[i].kind != Kind::Insert => {
-            (place + random.between(6, 9), random.nonzero_byte())
-        }
+        _ if kind == Kind::Search => (place + random.between(6, 9), random.nonzero_byte()),
+        // An insert or a delete with a charge, made a search.
+        _ if charge != 0 => (place, Kind::Search.number()),
         _ => return None,
     };
     Some(Fault::new(9, place, vec![edit]))

@@ -1,10 +1,9 @@
 //! The jobs of examples/: each a small story, told as a file, its operations
 //! and its turns. `cargo run --bin write_examples -- FOLDER` writes them.
 
+use crate::by_hand::{delete, delete_at, insert, search};
 use crate::file::ChargeFile;
-use crate::job::{
-    Job, Kind, Operation, MAX_CAPACITY, MAX_DEPTH, MAX_OPERATIONS, MAX_PAGES, MAX_TURNS,
-};
+use crate::job::{Job, MAX_CAPACITY, MAX_DEPTH, MAX_OPERATIONS, MAX_PAGES, MAX_TURNS};
 use crate::page::Record;
 
 /// A job with its name: examples/NAME.job has its bytes.
@@ -39,6 +38,7 @@ pub fn examples() -> Vec<Example> {
         example("school", school()),
         example("stale", stale()),
         example("late", late()),
+        example("bursars", bursars()),
         example("thin", thin()),
         example("tidied", tidied()),
         example("misfiled", misfiled()),
@@ -172,6 +172,41 @@ fn late() -> Job {
     Job {
         file: filled(even_file(1, 3, 2, 0), &[(5, 15), (8, 80)]),
         operations,
+        turns: turns.concat(),
+    }
+}
+
+/// Two bursars strike out call 12, each at the charge on the sheet before them:
+/// one has an old sheet. Then the call is stored again at another charge.
+fn bursars() -> Job {
+    let turns = [
+        // Both read their entry: page 1. The old sheet locks it, the new one
+        // has to wait.
+        &[0, 1, 0, 1][..],
+        // It verifies and decides: the charge differs. The page is still
+        // locked.
+        &[0, 0, 1],
+        // It unlocks, and the new sheet strikes the call out.
+        &[0, 1, 1, 1, 1, 1],
+        // The call is charged anew, and the slip of the new sheet comes once
+        // more: it waits for page 1. Delete 15 waits for page 2 in the same
+        // way, behind delete 13.
+        &rounds(&[2, 3, 4, 5], 9),
+    ];
+    Job {
+        file: filled(
+            even_file(1, 3, 2, 1),
+            &[(11, 40), (12, 250), (13, 75), (14, 95)],
+        ),
+        operations: vec![
+            delete_at(12, 180),
+            delete_at(12, 250),
+            insert(12, 270),
+            delete_at(12, 250),
+            // At whatever charge, and one that is not there.
+            delete(13),
+            delete_at(15, 60),
+        ],
         turns: turns.concat(),
     }
 }
@@ -312,21 +347,6 @@ fn filled(mut file: ChargeFile, calls: &[(u32, u32)]) -> ChargeFile {
 
 fn record(call: u32, charge: u32) -> Record {
     Record { call, charge }
-}
-
-fn search(call: u32) -> Operation {
-    let (kind, charge) = (Kind::Search, 0);
-    Operation { kind, call, charge }
-}
-
-fn insert(call: u32, charge: u32) -> Operation {
-    let kind = Kind::Insert;
-    Operation { kind, call, charge }
-}
-
-fn delete(call: u32) -> Operation {
-    let (kind, charge) = (Kind::Delete, 0);
-    Operation { kind, call, charge }
 }
 
 /// So many rounds in which each operation takes one turn.

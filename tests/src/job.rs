@@ -119,7 +119,8 @@ impl Kind {
     }
 }
 
-/// An operation of the job; the charge is "zero unless an insert".
+/// An operation of the job. The charge is the one that an insert stores, or the
+/// one that a delete asks of the file, zero if it takes any; a search has zero.
 #[derive(Clone, Copy, Debug, PartialEq, Eq)]
 pub struct Operation {
     pub kind: Kind,

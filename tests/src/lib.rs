@@ -19,11 +19,18 @@
 //!   random jobs, damaged jobs, and seeds that can be repeated;
 //! - [`make_thin`] and [`make_months`]: random files with thin pages, and jobs
 //!   that begin from the file that another has left;
+//! - [`make_asked`] and [`make_few_calls`]: the charges that random deletes ask
+//!   for, and random jobs whose operations all go for a few calls at a few
+//!   charges;
+//! - [`by_hand`]: small jobs made by hand, with what their result says;
 //! - [`vectors`]: the stored jobs and files, with what is wanted of them;
-//! - [`tally`]: how often each number of refusal was met;
+//! - [`tally`] and [`asked`]: how often each number of refusal was met, and each
+//!   way in which a delete's charge stands to the file's;
 //! - [`explain`]: whether a log explains its answers by the plain list.
 
 pub mod answer;
+pub mod asked;
+pub mod by_hand;
 pub mod check;
 pub mod damage;
 pub mod damage_pages;
@@ -35,6 +42,8 @@ pub mod job;
 pub mod key;
 pub mod little_endian;
 pub mod make;
+pub mod make_asked;
+pub mod make_few_calls;
 pub mod make_months;
 pub mod make_thin;
 pub mod make_turns;

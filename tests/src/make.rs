@@ -8,6 +8,7 @@
 use crate::file::ChargeFile;
 use crate::job::{Job, Kind, Operation, MAX_OPERATIONS, MAX_PAGES};
 use crate::key;
+use crate::make_asked;
 use crate::make_turns;
 use crate::page::Record;
 use crate::random::Random;
@@ -152,7 +153,7 @@ pub fn pool(random: &mut Random, depth: u32) -> Vec<u32> {
 
 /// Puts records of the pool in their pages, then brings some pages to the
 /// brim with other calls that belong there.
-fn fill(random: &mut Random, file: &mut ChargeFile, calls: &[u32]) {
+pub(crate) fn fill(random: &mut Random, file: &mut ChargeFile, calls: &[u32]) {
     let share = random.one_of(&[0, 30, 50, 80]);
     for &call in calls {
         if random.percent(share) {
@@ -185,11 +186,13 @@ pub(crate) fn store(random: &mut Random, file: &mut ChargeFile, call: u32) {
     }
 }
 
-/// Mostly small, sometimes at the ends: "every value of both is allowed".
-fn charge(random: &mut Random) -> u32 {
+/// Mostly small, sometimes at the ends: "every value of both is allowed". Zero is
+/// no rare one, since a delete that asks for it asks for nothing in particular.
+pub(crate) fn charge(random: &mut Random) -> u32 {
     match random.below(8) {
-        0 => random.one_of(&[0, u32::MAX, 1 << 31]),
-        1 => random.word(),
+        0 => 0,
+        1 => random.one_of(&[0, u32::MAX, 1 << 31]),
+        2 => random.word(),
         _ => random.below(1000) as u32,
     }
 }
@@ -203,7 +206,8 @@ pub(crate) fn operations(random: &mut Random, file: &ChargeFile, calls: &[u32]) 
         _ => random.between(8, 40),
     };
     // Searches, inserts and deletes out of a hundred.
-    let (searches, inserts) = random.one_of(&[(33, 34), (20, 70), (5, 90), (50, 40), (10, 45)]);
+    let mixes = [(33, 34), (20, 70), (5, 90), (50, 40), (10, 45), (10, 30)];
+    let (searches, inserts) = random.one_of(&mixes);
     let held: Vec<u32> = file.holds().iter().map(|record| record.call).collect();
     let operation = |_| {
         let kind = match random.below(100) {
@@ -220,9 +224,12 @@ pub(crate) fn operations(random: &mut Random, file: &ChargeFile, calls: &[u32]) 
         };
         let charge = match kind {
             Kind::Insert => charge(random),
+            // What the deletes ask for is said when all operations are there.
             Kind::Search | Kind::Delete => 0,
         };
         Operation { kind, call, charge }
     };
-    (0..count).map(operation).collect()
+    let mut operations: Vec<Operation> = (0..count).map(operation).collect();
+    make_asked::ask(random, file, &mut operations);
+    operations
 }

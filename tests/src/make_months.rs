@@ -5,6 +5,7 @@
 use crate::file::ChargeFile;
 use crate::job::{Job, Kind, Operation, MAX_OPERATIONS};
 use crate::make;
+use crate::make_asked::near;
 use crate::make_thin;
 use crate::make_turns;
 use crate::random::Random;
@@ -20,7 +21,8 @@ pub fn month(random: &mut Random, file: ChargeFile, calls: &[u32]) -> Job {
     with_turns(random, file, operations)
 }
 
-/// A month that takes most calls out of the file, in any order.
+/// A month that takes most calls out of the file, in any order. Of those that it
+/// asks for, few are there at another charge.
 pub fn month_of_deletes(random: &mut Random, file: ChargeFile) -> Job {
     let share = random.one_of(&[50, 80, 100]);
     let mut operations = Vec::new();
@@ -29,7 +31,11 @@ pub fn month_of_deletes(random: &mut Random, file: ChargeFile) -> Job {
             operations.push(Operation {
                 kind: Kind::Delete,
                 call: record.call,
-                charge: 0,
+                charge: match random.below(20) {
+                    0 => near(random, record.charge),
+                    1..=9 => record.charge,
+                    _ => 0,
+                },
             });
         }
     }

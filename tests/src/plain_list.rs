@@ -35,6 +35,11 @@ impl PlainList {
                 self.0.insert(call, charge);
                 (Code::Stored, charge)
             }
+            // "Where the call is there at another charge, the answer is 9,
+            // 'differs', with the file's charge, ... and nothing changes."
+            (Kind::Delete, Some(there), _) if charge != 0 && charge != there => {
+                (Code::Differs, there)
+            }
             (Kind::Delete, Some(there), _) => {
                 self.0.remove(&call);
                 (Code::Deleted, there)

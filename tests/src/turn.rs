@@ -232,9 +232,11 @@ impl Progress {
     }
 
     /// "(d) read the page and decide": everything still to do, in order. The
-    /// code of "already there" and the other refusals is set at once; "its
-    /// duplicate answer keeps the lock. Here it is released." Whatever is told
-    /// of this page has "the page read in turn (d)".
+    /// code of "already there" and the other refusals is set at once, that of
+    /// "differs" too: "its moment is turn (d), the next turn unlocks, and
+    /// nothing changes". "Its duplicate answer keeps the lock. Here it is
+    /// released." Whatever is told of this page has "the page read in turn
+    /// (d)".
     fn decide(&mut self, number: usize, shared: &mut Shared, now: usize) -> VecDeque<Step> {
         let Operation { kind, call, charge } = self.operation;
         let looked = shared.file.look(number, call);
@@ -255,10 +257,11 @@ impl Progress {
                 .decide_split(number, &page, shared)
                 .map_err(|code| told(code, 0)),
             (Kind::Delete, None) => Err(told(Code::Absent, 0)),
-            (Kind::Delete, Some(there)) => {
+            (Kind::Delete, Some(there)) if strikes_out(charge, there.charge) => {
                 let written = page.remove(call);
                 Ok(rewrite(number, written, told(Code::Deleted, there.charge)))
             }
+            (Kind::Delete, Some(there)) => Err(told(Code::Differs, there.charge)),
         };
         steps.unwrap_or_else(|told| {
             self.settle(told, now);
@@ -346,6 +349,13 @@ impl Progress {
             Stage::CarryOut(steps)
         }
     }
+}
+
+/// Whether a delete that asks for this charge takes out a call at that one. "A
+/// delete with charge zero strikes out as ever"; another "deletes only where the
+/// file's charge is equal".
+fn strikes_out(asked: u32, held: u32) -> bool {
+    asked == 0 || asked == held
 }
 
 /// "Otherwise a turn writes the page and a turn unlocks it, finished."

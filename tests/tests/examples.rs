@@ -6,7 +6,7 @@ use std::path::{Path, PathBuf};
 
 use chargefile_tests::answer::{Code, Line};
 use chargefile_tests::examples::{examples, Example};
-use chargefile_tests::job::{Counts, Job};
+use chargefile_tests::job::{Counts, Job, Kind, Operation};
 use chargefile_tests::page::Record;
 use chargefile_tests::run::Run;
 use chargefile_tests::vectors;
@@ -211,6 +211,49 @@ fn late_calls_go_before_the_higher_ones() {
     assert_eq!(run.shared.tally.splits, 1, "insert 6 splits page 1");
     let calls = |number: usize| run.shared.file.page(number).calls();
     assert_eq!((calls(1), calls(2)), (vec![2, 6, 8], vec![3, 5, 7]));
+}
+
+#[test]
+fn bursars_strike_out_only_at_the_charge_they_saw() {
+    let job = example("bursars");
+    let run = dealt(&job);
+    let answers = run.answers();
+    let told: Vec<(Code, u32)> = answers.iter().map(|a| (a.code, a.charge)).collect();
+    let wanted = [
+        (Code::Differs, 250),
+        (Code::Deleted, 250),
+        (Code::Stored, 270),
+        (Code::Differs, 270),
+        (Code::Deleted, 75),
+        (Code::Absent, 0),
+    ];
+    assert_eq!(told, wanted);
+    assert_eq!(run.unfinished().count(), 0);
+    for (old, turn_d) in [(0, 5), (3, 42)] {
+        let (moment, turns) = moment_and_turns(&job, &run, old);
+        assert_eq!(moment, turn_d, "operation {old}");
+        assert!(turns.contains(&moment), "its own turn");
+    }
+    let at_any_charge = Job {
+        operations: job.operations.iter().map(uncharged).collect(),
+        turns: (0..6).flat_map(|operation| [operation; 6]).collect(),
+        ..job
+    };
+    let told = [Code::Deleted, Code::Absent, Code::Stored, Code::Deleted];
+    assert_eq!(
+        codes(&dealt(&at_any_charge))[..4],
+        told,
+        "the new charge is lost"
+    );
+}
+
+/// A delete with no charge; any other operation as it is.
+fn uncharged(operation: &Operation) -> Operation {
+    let mut uncharged = *operation;
+    if operation.kind == Kind::Delete {
+        uncharged.charge = 0;
+    }
+    uncharged
 }
 
 #[test]

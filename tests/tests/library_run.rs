@@ -2,6 +2,7 @@
 
 mod linked;
 
+use chargefile_tests::answer::CODES;
 use chargefile_tests::check::least_lent;
 use chargefile_tests::damage::{fault, scribble, NUMBERS};
 use chargefile_tests::explain::explain;
@@ -46,7 +47,7 @@ fn every_vector() {
 
 #[test]
 fn random_jobs() {
-    let (mut files, mut codes) = (0, [0usize; 9]);
+    let (mut files, mut codes) = (0, [0usize; CODES.len()]);
     let whole = each_seed(JOBS, |seed| {
         let random = &mut Random::new(seed, "library run");
         let job = make::mostly_small_job(random, seed);

@@ -1,6 +1,7 @@
 //! One month after another, with tidying between them: "a run that begins from a tidied file is explained by its log like any other".
 
 use chargefile_tests::answer::Code;
+use chargefile_tests::asked::Asked;
 use chargefile_tests::explain::{explain, explain_from};
 use chargefile_tests::file::ChargeFile;
 use chargefile_tests::job::Job;
@@ -62,7 +63,8 @@ fn times(contents: &Contents, code: Code) -> usize {
 
 #[test]
 fn a_run_from_a_tidied_file_is_explained() {
-    let (mut splits, mut stored, mut deleted, mut no_page, mut no_depth) = (0, 0, 0, 0, 0);
+    let (mut splits, mut asked) = (0, Asked::default());
+    let (mut stored, mut deleted, mut no_page, mut no_depth) = (0, 0, 0, 0);
     let whole = each_seed(RUNS, |seed| {
         let random = &mut Random::new(seed, "run from tidied");
         let came_in = between_months(random);
@@ -77,6 +79,9 @@ fn a_run_from_a_tidied_file_is_explained() {
         let list = explain(&job, &contents).unwrap();
         assert_eq!(PlainList::of(&run.shared.file.holds()), Ok(list));
         splits += run.shared.tally.splits;
+        for (operation, answer) in job.operations.iter().zip(&contents.answers) {
+            asked.count(operation, answer);
+        }
         stored += times(&contents, Code::Stored);
         deleted += times(&contents, Code::Deleted);
         no_page += times(&contents, Code::NoPage);
@@ -90,6 +95,8 @@ fn a_run_from_a_tidied_file_is_explained() {
             ("no page", no_page, 300),
             ("no depth", no_depth, 300),
         ]);
+        println!("{asked:?}");
+        asked.all_met(100);
     }
 }
 

@@ -3,7 +3,8 @@
 //! the page was read. "A list that stops early is a shorter list", so this is
 //! asked of each of them.
 
-use chargefile_tests::answer::{Answer, Code};
+use chargefile_tests::answer::{Answer, Code, CODES};
+use chargefile_tests::asked::Asked;
 use chargefile_tests::file::ChargeFile;
 use chargefile_tests::job::{Job, Kind, Operation};
 use chargefile_tests::make;
@@ -22,7 +23,8 @@ const JOBS: u64 = 40_000;
 struct Seen {
     turns: usize,
     retries: usize,
-    codes: [usize; 9],
+    codes: [usize; CODES.len()],
+    asked: Asked,
     stored_in_a_new_page: usize,
     found_in_a_page_left: usize,
     searches_of_two_pages: usize,
@@ -30,6 +32,7 @@ struct Seen {
     deleted_not_at_once: usize,
     high_pages: usize,
     bytes_not_zero: usize,
+    differs_elsewhere: usize,
 }
 
 impl Seen {
@@ -45,7 +48,13 @@ impl Seen {
             ("deleted after others' turns", self.deleted_not_at_once, 500),
             ("pages above 128", self.high_pages, 100),
             ("bytes not zero", self.bytes_not_zero, 20_000),
+            (
+                "9 on another page than the first",
+                self.differs_elsewhere,
+                500,
+            ),
         ]);
+        self.asked.all_met(200);
     }
 }
 
@@ -118,8 +127,9 @@ fn follow(job: &Job, cut: usize, seen: &mut Seen) {
         one_turn(job, number, (&before, &run), &mut rows, seen);
     }
     bytes_are_as_followed(job, job.turns.len(), &rows, seen);
-    for row in &rows {
+    for (row, operation) in rows.iter().zip(&job.operations) {
         seen.codes[row.answer.code.number()] += 1;
+        seen.asked.count(operation, &row.answer);
     }
     seen.turns += run.now;
     seen.retries += run.shared.tally.retries;
@@ -216,7 +226,7 @@ impl Telling<'_> {
     fn is_of_the_reading(&self) {
         let (there, missing) = (Some(self.record()), None);
         let (at_once, had) = match self.answer.code {
-            Code::Found | Code::AlreadyThere => (true, there),
+            Code::Found | Code::AlreadyThere | Code::Differs => (true, there),
             Code::Absent | Code::NoDepth | Code::NoPage => (true, missing),
             // These two are told when something has been written.
             Code::Deleted => (false, there),
@@ -244,6 +254,10 @@ impl Telling<'_> {
                 assert!(self.holds(self.after));
             }
             Code::AlreadyThere => assert!(self.holds(self.after)),
+            Code::Differs => {
+                assert!(self.holds(self.after));
+                assert_eq!(self.before, self.after, "nothing changes");
+            }
             Code::Deleted => assert!(self.holds(self.before) && !self.has(self.after)),
             Code::Absent => assert!(!self.has(self.after)),
             Code::NoDepth | Code::NoPage => {
@@ -267,6 +281,7 @@ impl Telling<'_> {
         seen.none_but_there_now += usize::from(there_now);
         seen.deleted_not_at_once += usize::from(later);
         seen.high_pages += usize::from(self.page > 128);
+        seen.differs_elsewhere += usize::from(code == Code::Differs && self.page > 1);
     }
 }
 

@@ -1,90 +1,29 @@
 //! The page with the answer, on small jobs reckoned by hand: code and page byte
-//! are read from the result's own bytes.
+//! are read from the result's own bytes. What is in the file is charged 100, and
+//! what is inserted 7.
 
+use chargefile_tests::by_hand::*;
 use chargefile_tests::file::{ChargeFile, Looked};
-use chargefile_tests::job::{Job, Kind, Operation};
-use chargefile_tests::page::{Page, Record};
-use chargefile_tests::result::{self, answer_bytes};
+use chargefile_tests::page::Record;
+use chargefile_tests::result;
 use chargefile_tests::run::result_bytes;
-
-const SEARCH: Kind = Kind::Search;
-const INSERT: Kind = Kind::Insert;
-const DELETE: Kind = Kind::Delete;
-
-/// The codes by their numbers.
-const NOT_YET: u8 = 0;
-const FOUND: u8 = 1;
-const NONE: u8 = 2;
-const STORED: u8 = 3;
-const ALREADY_THERE: u8 = 4;
-const DELETED: u8 = 5;
-const ABSENT: u8 = 6;
-const NO_DEPTH: u8 = 7;
-const NO_PAGE: u8 = 8;
 
 /// A code with its page byte, of an operation that has no moment yet.
 const NO_MOMENT: (u8, u8) = (NOT_YET, 0);
 
-/// A file of capacity 2 with these pages in use, from page 1 on: depth, pattern
-/// and calls.
-fn file(depth: u32, page_count: usize, pages: &[(u32, u32, &[u32])]) -> ChargeFile {
-    let mut file = ChargeFile::empty(depth, 2, page_count);
-    file.in_use = pages.len();
-    for (number, &(depth, pattern, calls)) in (1..).zip(pages) {
-        let record = |&call: &u32| Record { call, charge: 100 };
-        let page = Page {
-            depth,
-            pattern,
-            records: calls.iter().map(record).collect(),
-        };
-        for j in 0..file.directory.len() {
-            if page.owns(j, file.depth) {
-                file.directory[j] = number;
-            }
-        }
-        *file.page_mut(number) = page;
-    }
-    file
-}
-
-/// The result of a job; the turns are operations, each with how many it is
-/// dealt in a row.
-fn result_of(file: &ChargeFile, operations: &[(Kind, u32)], turns: &[(usize, usize)]) -> Vec<u8> {
-    let operation = |&(kind, call): &(Kind, u32)| Operation {
-        kind,
-        call,
-        charge: if kind == INSERT { 7 } else { 0 },
-    };
-    let dealt = |&(operation, times): &(usize, usize)| vec![operation; times];
-    let job = Job {
-        file: file.clone(),
-        operations: operations.iter().map(operation).collect(),
-        turns: turns.iter().flat_map(dealt).collect(),
-    };
-    result_bytes(&job.to_bytes())
-}
-
-/// Code and page byte of each operation.
-fn told(file: &ChargeFile, operations: &[(Kind, u32)], turns: &[(usize, usize)]) -> Vec<(u8, u8)> {
-    let result = result_of(file, operations, turns);
-    let answers = answer_bytes(&result, operations.len());
-    answers.map(|answer| (answer[0], answer[1])).collect()
-}
-
-/// The same with each operation run to its end before the next.
-fn one_by_one(file: &ChargeFile, operations: &[(Kind, u32)]) -> Vec<(u8, u8)> {
-    let turns: Vec<(usize, usize)> = (0..operations.len()).map(|i| (i, 20)).collect();
-    told(file, operations, &turns)
-}
-
 /// One page with calls 2 and 3, which have indexes 0 and 1 at depth 1.
 fn full_page() -> ChargeFile {
-    file(1, 2, &[(0, 0, &[2, 3])])
+    one_page(&[(2, 100), (3, 100)])
+}
+
+/// The same calls in two pages, by their index.
+fn two_pages() -> ChargeFile {
+    file(1, 2, &[(1, 0, &[(2, 100)]), (1, 1, &[(3, 100)])])
 }
 
 #[test]
 fn looking_into_a_page_tells_which_it_was() {
-    let file = file(1, 2, &[(1, 0, &[2]), (1, 1, &[3])]);
+    let file = two_pages();
     let record = Record {
         call: 3,
         charge: 100,
@@ -100,43 +39,44 @@ fn looking_into_a_page_tells_which_it_was() {
 
 #[test]
 fn the_byte_is_the_number_less_one_and_not_the_index() {
-    let operations = [(SEARCH, 2), (SEARCH, 3), (SEARCH, 6), (SEARCH, 7)];
-    let rising = file(1, 2, &[(1, 0, &[2]), (1, 1, &[3])]);
+    let operations = [search(2), search(3), search(6), search(7)];
+    let rising = one_by_one(&two_pages(), &operations);
     let wanted = [(FOUND, 0), (FOUND, 1), (NONE, 0), (NONE, 1)];
-    assert_eq!(one_by_one(&rising, &operations), wanted);
-    let falling = file(1, 2, &[(1, 1, &[3]), (1, 0, &[2])]);
+    assert_eq!(rising.codes_and_pages(), wanted);
+    let falling = file(1, 2, &[(1, 1, &[(3, 100)]), (1, 0, &[(2, 100)])]);
     let wanted = [(FOUND, 1), (FOUND, 0), (NONE, 1), (NONE, 0)];
-    assert_eq!(one_by_one(&falling, &operations), wanted);
+    let falling = one_by_one(&falling, &operations);
+    assert_eq!(falling.codes_and_pages(), wanted);
 }
 
 /// Both searches read their entry, insert 4 splits page 1 into 2, 4 and 3, and
 /// both read page 1, the entry again, and page 2.
 #[test]
 fn a_search_tells_the_page_last_read() {
-    let operations = [(INSERT, 4), (SEARCH, 3), (SEARCH, 7)];
+    let operations = [insert(4, 7), search(3), search(7)];
     let mut turns = vec![(1, 1), (2, 1), (0, 9), (1, 3), (2, 3)];
     let now = told(&full_page(), &operations, &turns);
-    assert_eq!(now, [(STORED, 0), (FOUND, 1), NO_MOMENT], "page 2 was read");
+    let wanted = [(STORED, 0), (FOUND, 1), NO_MOMENT];
+    assert_eq!(now.codes_and_pages(), wanted, "page 2 was read");
     turns.push((2, 1));
     let now = told(&full_page(), &operations, &turns);
-    assert_eq!(now, [(STORED, 0), (FOUND, 1), (NONE, 1)]);
+    assert_eq!(now.codes_and_pages(), [(STORED, 0), (FOUND, 1), (NONE, 1)]);
 }
 
 /// The insert has written page 2 and entry 1 but not the old page, and call 3
 /// is deleted from page 2: a search that finds it in page 1 has read page 1.
 #[test]
 fn a_late_reader_tells_the_page_it_read() {
-    let operations = [(INSERT, 4), (SEARCH, 3), (DELETE, 3)];
+    let operations = [insert(4, 7), search(3), delete(3)];
     let turns = [(1, 1), (0, 7), (2, 6), (1, 1)];
     let now = told(&full_page(), &operations, &turns);
-    assert_eq!(now, [NO_MOMENT, (FOUND, 0), (DELETED, 1)]);
+    assert_eq!(now.codes_and_pages(), [NO_MOMENT, (FOUND, 0), (DELETED, 1)]);
 }
 
 #[test]
 fn stored_without_a_split() {
-    let file = file(1, 2, &[(1, 0, &[2]), (1, 1, &[3])]);
-    let now = one_by_one(&file, &[(INSERT, 4), (INSERT, 5)]);
-    assert_eq!(now, [(STORED, 0), (STORED, 1)]);
+    let now = one_by_one(&two_pages(), &[insert(4, 7), insert(5, 7)]);
+    assert_eq!(now.codes_and_pages(), [(STORED, 0), (STORED, 1)]);
 }
 
 /// Page 2 has calls 1 and 3, indexes 2 and 3 at depth 2, and 3 goes to page 3.
@@ -144,9 +84,9 @@ fn stored_without_a_split() {
 /// turn; call 7 goes with 3 and is stored as entry 3 is, the sixth.
 #[test]
 fn stored_in_the_old_page_or_in_the_new_one() {
-    let file = file(2, 3, &[(1, 0, &[2]), (1, 1, &[1, 3])]);
+    let file = file(2, 3, &[(1, 0, &[(2, 100)]), (1, 1, &[(1, 100), (3, 100)])]);
     for (call, used, byte) in [(5, 8, 1), (7, 6, 2)] {
-        let after = |turns| told(&file, &[(INSERT, call)], &[(0, turns)]);
+        let after = |turns| told(&file, &[insert(call, 7)], &[(0, turns)]).codes_and_pages();
         for turns in 0..used {
             assert_eq!(after(turns), [NO_MOMENT], "call {call}, turn {turns}");
         }
@@ -166,8 +106,8 @@ fn stored_in_the_first_of_several_new_pages_or_another_or_the_old_one() {
         ([3, 11], 7, 11, 3),
         ([4, 12], 0, 16, 0),
     ] {
-        let file = file(3, 4, &[(0, 0, &calls)]);
-        let after = |turns| told(&file, &[(INSERT, call)], &[(0, turns)]);
+        let file = file(3, 4, &[(0, 0, &calls.map(|call| (call, 100)))]);
+        let after = |turns| told(&file, &[insert(call, 7)], &[(0, turns)]).codes_and_pages();
         assert_eq!(after(used - 1), [NO_MOMENT], "call {call}");
         assert_eq!(after(used), [(STORED, byte)], "call {call}");
         assert_eq!(after(20), [(STORED, byte)], "call {call}");
@@ -176,15 +116,15 @@ fn stored_in_the_first_of_several_new_pages_or_another_or_the_old_one() {
 
 #[test]
 fn the_rest_tell_the_page_read_in_turn_d() {
-    let pages: [(u32, u32, &[u32]); 2] = [(1, 0, &[2]), (1, 1, &[3, 5])];
+    let pages: [ByHand; 2] = [(1, 0, &[(2, 100)]), (1, 1, &[(3, 100), (5, 100)])];
     let operations = [
-        (INSERT, 3),
-        (DELETE, 7),
-        (INSERT, 7),
-        (DELETE, 3),
-        (INSERT, 2),
-        (DELETE, 2),
-        (DELETE, 2),
+        insert(3, 7),
+        delete(7),
+        insert(7, 7),
+        delete(3),
+        insert(2, 7),
+        delete(2),
+        delete(2),
     ];
     let wanted = [
         (ALREADY_THERE, 1),
@@ -195,9 +135,10 @@ fn the_rest_tell_the_page_read_in_turn_d() {
         (DELETED, 0),
         (ABSENT, 0),
     ];
-    assert_eq!(one_by_one(&file(1, 2, &pages), &operations), wanted);
-    let now = one_by_one(&file(2, 2, &pages), &[(INSERT, 7)]);
-    assert_eq!(now, [(NO_PAGE, 1)]);
+    let now = one_by_one(&file(1, 2, &pages), &operations);
+    assert_eq!(now.codes_and_pages(), wanted);
+    let now = one_by_one(&file(2, 2, &pages), &[insert(7, 7)]);
+    assert_eq!(now.codes_and_pages(), [(NO_PAGE, 1)]);
 }
 
 /// Each has read that its entry names page 1 before insert 5 splits that page
@@ -205,48 +146,47 @@ fn the_rest_tell_the_page_read_in_turn_d() {
 /// reads page 2 in turn (d).
 #[test]
 fn the_rest_tell_the_page_of_turn_d_after_a_retry() {
-    let others = [(INSERT, 3), (DELETE, 7), (INSERT, 7), (DELETE, 3)];
+    let others = [insert(3, 7), delete(7), insert(7, 7), delete(3)];
     let codes = [ALREADY_THERE, ABSENT, NO_DEPTH, DELETED];
     for (other, code) in others.into_iter().zip(codes) {
         let turns = [(1, 1), (0, 9), (1, 10)];
-        let now = told(&full_page(), &[(INSERT, 5), other], &turns);
-        assert_eq!(now, [(STORED, 1), (code, 1)], "{other:?}");
+        let now = told(&full_page(), &[insert(5, 7), other], &turns);
+        assert_eq!(now.codes_and_pages(), [(STORED, 1), (code, 1)], "{other:?}");
     }
-    let deeper = file(2, 2, &[(0, 0, &[2, 3])]);
-    let operations = [(INSERT, 5), (INSERT, 7)];
+    let deeper = file(2, 2, &[(0, 0, &[(2, 100), (3, 100)])]);
+    let operations = [insert(5, 7), insert(7, 7)];
     let now = told(&deeper, &operations, &[(1, 1), (0, 10), (1, 10)]);
-    assert_eq!(now, [(STORED, 1), (NO_PAGE, 1)]);
+    assert_eq!(now.codes_and_pages(), [(STORED, 1), (NO_PAGE, 1)]);
 }
 
 /// As before, but insert 4 stays in page 1, and page 2 has room.
 #[test]
 fn stored_after_a_retry() {
-    let operations = [(INSERT, 4), (INSERT, 5)];
+    let operations = [insert(4, 7), insert(5, 7)];
     let now = told(&full_page(), &operations, &[(1, 1), (0, 9), (1, 10)]);
-    assert_eq!(now, [(STORED, 0), (STORED, 1)]);
+    assert_eq!(now.codes_and_pages(), [(STORED, 0), (STORED, 1)]);
 }
 
 /// All of them are begun and none is finished, but for the last, which is not
 /// begun. All look at page 2.
 #[test]
 fn the_unfinished_tell_a_page_once_their_moment_is_known() {
-    let file = file(1, 2, &[(1, 0, &[2]), (1, 1, &[3])]);
-    for (operation, turns, now) in [
-        ((INSERT, 5), 5, (STORED, 1)),
-        ((INSERT, 5), 4, NO_MOMENT),
-        ((DELETE, 3), 5, (DELETED, 1)),
-        ((DELETE, 3), 4, NO_MOMENT),
-        ((INSERT, 3), 4, (ALREADY_THERE, 1)),
-        ((INSERT, 3), 3, NO_MOMENT),
-        ((DELETE, 5), 4, (ABSENT, 1)),
-        ((DELETE, 5), 3, NO_MOMENT),
-        ((SEARCH, 7), 2, NO_MOMENT),
-        ((SEARCH, 3), 0, NO_MOMENT),
+    for (operation, turns, wanted) in [
+        (insert(5, 7), 5, (STORED, 1)),
+        (insert(5, 7), 4, NO_MOMENT),
+        (delete(3), 5, (DELETED, 1)),
+        (delete(3), 4, NO_MOMENT),
+        (insert(3, 7), 4, (ALREADY_THERE, 1)),
+        (insert(3, 7), 3, NO_MOMENT),
+        (delete(5), 4, (ABSENT, 1)),
+        (delete(5), 3, NO_MOMENT),
+        (search(7), 2, NO_MOMENT),
+        (search(3), 0, NO_MOMENT),
     ] {
-        let result = result_of(&file, &[operation], &[(0, turns)]);
+        let now = told(&two_pages(), &[operation], &[(0, turns)]);
         let name = format!("{operation:?}, turn {turns}");
-        assert_eq!(result[6], u8::from(turns > 0), "under way: {name}");
-        assert_eq!((result[24], result[25]), now, "{name}");
+        assert_eq!(now.under_way, usize::from(turns > 0), "{name}");
+        assert_eq!(now.codes_and_pages(), [wanted], "{name}");
     }
 }
 
@@ -254,19 +194,19 @@ fn the_unfinished_tell_a_page_once_their_moment_is_known() {
 /// 256; call 0 has index 0.
 #[test]
 fn page_256_has_byte_255() {
-    let call = |j: u32| [u32::from((j as u8).reverse_bits())];
-    let calls: Vec<[u32; 1]> = (0..256).map(call).collect();
-    let page = |j: u32| (8, j, &calls[j as usize][..]);
-    let pages: Vec<(u32, u32, &[u32])> = (0..256).map(page).collect();
+    let record = |j: u32| [(u32::from((j as u8).reverse_bits()), 100)];
+    let records: Vec<[(u32, u32); 1]> = (0..256).map(record).collect();
+    let page = |j: u32| (8, j, &records[j as usize][..]);
+    let pages: Vec<ByHand> = (0..256).map(page).collect();
     let operations = [
-        (SEARCH, 255),
-        (SEARCH, 511),
-        (DELETE, 511),
-        (INSERT, 511),
-        (INSERT, 255),
-        (INSERT, 767),
-        (DELETE, 255),
-        (SEARCH, 0),
+        search(255),
+        search(511),
+        delete(511),
+        insert(511, 7),
+        insert(255, 7),
+        insert(767, 7),
+        delete(255),
+        search(0),
     ];
     let codes = [
         FOUND,
@@ -279,22 +219,26 @@ fn page_256_has_byte_255() {
     ];
     let mut wanted = codes.map(|code| (code, 255)).to_vec();
     wanted.push((FOUND, 0));
-    assert_eq!(one_by_one(&file(8, 256, &pages), &operations), wanted);
+    let now = one_by_one(&file(8, 256, &pages), &operations);
+    assert_eq!(now.codes_and_pages(), wanted);
 
     // Page 255 stands for the last two entries, and call 127 has index 254.
     let mut pages = pages[..254].to_vec();
-    pages.push((7, 127, &[127, 383]));
+    pages.push((7, 127, &[(127, 100), (383, 100)]));
     let split = file(8, 256, &pages);
-    let now = one_by_one(&split, &[(INSERT, 639), (INSERT, 255), (SEARCH, 127)]);
-    assert_eq!(now, [(NO_DEPTH, 254), (STORED, 255), (FOUND, 254)]);
+    let now = one_by_one(&split, &[insert(639, 7), insert(255, 7), search(127)]);
+    assert_eq!(
+        now.codes_and_pages(),
+        [(NO_DEPTH, 254), (STORED, 255), (FOUND, 254)]
+    );
 }
 
 /// The reader of results reads the page, and takes neither another version nor
 /// a page with code 0.
 #[test]
 fn a_result_is_read_with_its_pages() {
-    let operations = [(SEARCH, 3), (SEARCH, 2)];
-    let mut result = result_of(&full_page(), &operations, &[(0, 2)]);
+    let operations = [search(3), search(2)];
+    let mut result = result_bytes(&job(&full_page(), &operations, &[(0, 2)]).to_bytes());
     let pages = |result: &[u8]| {
         let answers = result::from_bytes(result).map(|contents| contents.answers)?;
         let pages = answers.iter().map(|answer| answer.page).collect();

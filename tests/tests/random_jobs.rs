@@ -1,7 +1,8 @@
 //! Random jobs with contended turn lists: the log explains every answer, real
 //! time is kept, nothing gets stuck, and the charge file is the file.
 
-use chargefile_tests::answer::Code;
+use chargefile_tests::answer::{Code, CODES};
+use chargefile_tests::asked::Asked;
 use chargefile_tests::check;
 use chargefile_tests::explain::explain;
 use chargefile_tests::job::{Job, Kind};
@@ -25,7 +26,8 @@ struct Seen {
     waits: usize,
     idle: usize,
     tally: Tally,
-    codes: [usize; 9],
+    codes: [usize; CODES.len()],
+    asked: Asked,
     stops_midway: usize,
     settled_but_unfinished: usize,
     charge_files: usize,
@@ -50,8 +52,9 @@ impl Seen {
         sum.search_retries += one.search_retries;
         sum.stale_found += one.stale_found;
         sum.stale_found_gone += one.stale_found_gone;
-        for answer in &contents.answers {
+        for (operation, answer) in job.operations.iter().zip(&contents.answers) {
             self.codes[answer.code.number()] += 1;
+            self.asked.count(operation, answer);
         }
         let rows = || run.rows.iter();
         let settled = rows().filter(|row| row.progress.settled.is_some());
@@ -90,6 +93,7 @@ impl Seen {
         assert_eq!(tally.largest_split, 8, "the largest n is g - l: {self:?}");
         let rarest = self.codes.iter().min().unwrap();
         assert!(*rarest >= 4_000, "codes: {:?}", self.codes);
+        self.asked.all_met(1_000);
     }
 }
 

@@ -1,6 +1,7 @@
 //! The tuned rival (tests/rival) against the tests' own implementation: a ratio to it says something only as long as it does the whole work.
 //! Refusals, result bytes and every lent buffer afterwards: every vector, random jobs and damaged ones.
 
+use chargefile_tests::answer::CODES;
 use chargefile_tests::check::{least_lent, WORKING_MEMORY};
 use chargefile_tests::damage::{fault, scribble, NUMBERS};
 use chargefile_tests::file::ChargeFile;
@@ -101,7 +102,7 @@ fn every_vector() {
 
 #[test]
 fn random_jobs() {
-    let (mut jobs, mut codes) = (0, [0usize; 9]);
+    let (mut jobs, mut codes) = (0, [0usize; CODES.len()]);
     let whole = each_seed(JOBS, |seed| {
         let random = &mut Random::new(seed, "rival");
         let job = make::mostly_small_job(random, seed);

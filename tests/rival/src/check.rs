@@ -57,13 +57,13 @@ fn offsets_sound(bytes: &[u8; 32], header: &Header, length: usize) -> bool {
         & (length == header.total())
 }
 
-/// Row 9. Kind and spare byte are taken as one number.
+/// Row 9. Kind and spare byte are taken as one number; of a search, which is kind 1, the charge must be zero.
 #[inline(always)]
 fn operations_sound(operations: &[[u8; 10]]) -> bool {
     let mut fault = 0;
     for operation in operations {
         let kind = two_at(operation, 0) as u32;
-        let must_be_zero = if kind == 2 { 0 } else { four_at(operation, 6) };
+        let must_be_zero = if kind == 1 { four_at(operation, 6) } else { 0 };
         fault |= (kind.wrapping_sub(1) > 2) as u32 | must_be_zero;
     }
     fault == 0

@@ -137,7 +137,7 @@ fn operation(job: &[u8], header: &Header) -> Option<usize> {
     let mut places = (0..header.operations).map(|i| header.operations_at() + OPERATION_LENGTH * i);
     places.find(|place| {
         let (kind, spare) = (job[*place], job[place + 1]);
-        !(1..=3).contains(&kind) || spare != 0 || (kind != 2 && four_at(job, place + 6) != 0)
+        !(1..=3).contains(&kind) || spare != 0 || (kind == 1 && four_at(job, place + 6) != 0)
     })
 }
 

@@ -2,7 +2,7 @@
 
 use crate::operation::{Operation, DECIDE, DELETE, RELEASE, UNLOCK, VERIFY, WRITE_NEW, WRITE_PAGE};
 use crate::page;
-use crate::result::{ABSENT, ALREADY_THERE, DELETED, NO_DEPTH, NO_PAGE, STORED};
+use crate::result::{ABSENT, ALREADY_THERE, DELETED, DIFFERS, NO_DEPTH, NO_PAGE, STORED};
 use crate::tables::Shared;
 
 impl<const N: usize> Shared<'_, '_, N> {
@@ -44,8 +44,14 @@ impl<const N: usize> Shared<'_, '_, N> {
         let found = page::find(page, operation.call());
         match (operation.kind(), found) {
             (DELETE, Some(at)) => {
-                operation.row.next = at as u8;
-                *operation.stage = WRITE_PAGE;
+                let charge = page::charge_of(page::record(page, at));
+                if operation.strikes_out(charge) {
+                    operation.row.next = at as u8;
+                    *operation.stage = WRITE_PAGE;
+                } else {
+                    operation.row.charge = charge;
+                    self.give_up(operation, DIFFERS);
+                }
             }
             (DELETE, None) => self.give_up(operation, ABSENT),
             (_, Some(at)) => {

@@ -78,6 +78,13 @@ impl Operation<'_> {
         self.call() as u64 | (self.charge() as u64) << 32
     }
 
+    /// Whether a delete strikes out a call that has this charge. Zero asks for any.
+    #[inline(always)]
+    pub fn strikes_out(&self, charge: u32) -> bool {
+        let asked = self.charge();
+        asked == 0 || asked == charge
+    }
+
     /// The next turns wait for no lock.
     #[inline(always)]
     pub fn free(&mut self) {

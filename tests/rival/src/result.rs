@@ -18,6 +18,7 @@ pub const DELETED: u8 = 5;
 pub const ABSENT: u8 = 6;
 pub const NO_DEPTH: u8 = 7;
 pub const NO_PAGE: u8 = 8;
+pub const DIFFERS: u8 = 9;
 
 /// How long a lent result buffer must be.
 #[inline(always)]

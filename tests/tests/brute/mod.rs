@@ -239,7 +239,8 @@ fn record_is_wrong(call: usize, earlier: &[usize], pattern: &str) -> bool {
 fn operation_faults(job: &[u8], sections: &Sections) -> Vec<Refusal> {
     let wrong = |place: &usize| {
         let row = &job[*place..place + 10];
-        let must_be_zero = if row[0] == 2 { 1..2 } else { 6..10 };
+        // inserts and deletes have a charge of their own; a search has none
+        let must_be_zero = if row[0] == 1 { 6..10 } else { 1..2 };
         !matches!(row[0], 1..=3) || row[1] != 0 || row[must_be_zero].iter().any(|byte| *byte != 0)
     };
     let places = sections.rows(2, 10).filter(wrong);
