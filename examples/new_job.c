@@ -9,7 +9,11 @@
  *     insert CALL CHARGE
  *     search CALL
  *     delete CALL
+ *     delete CALL CHARGE
  *     turns N N N ...
+ *
+ * A delete with a charge strikes the call out only if the file then has it at this charge. With no
+ * charge, or with 0, it strikes the call out at any.
  *
  * Exit status 0, and the job on standard output. Exit status 1, the reason on standard error and
  * nothing on standard output, where the charge file is refused or a line is wrong.
@@ -35,10 +39,15 @@ static void append(unsigned size, uint32_t number)
 static const char *add_operation(unsigned kind)
 {
     uint32_t call, charge = 0;
-    if (!number_of(strtok(NULL, BLANKS), &call) ||
-        (kind == CHARGEFILE_INSERT && !number_of(strtok(NULL, BLANKS), &charge)) ||
-        strtok(NULL, BLANKS) != NULL) {
-        return "a call belongs here, and for an insert a charge, 0 to 4294967295 each";
+    bool sound = number_of(strtok(NULL, BLANKS), &call);
+    const char *word = strtok(NULL, BLANKS);
+    if (kind == CHARGEFILE_INSERT || (kind == CHARGEFILE_DELETE && word != NULL)) {
+        sound = sound && number_of(word, &charge);
+        word = strtok(NULL, BLANKS);
+    }
+    if (!sound || word != NULL) {
+        return "a call belongs here, and for an insert a charge, which a delete may have too, "
+               "0 to 4294967295 each";
     }
     if (turns > 0) {
         return "operations stand before turns";

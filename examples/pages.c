@@ -22,7 +22,7 @@ static void print_answer(uint32_t number, const uint8_t *operation, const uint8_
     static const char *const kinds[] = {"", "search", "insert", "delete"};
     static const char *const codes[] = {
         "not yet", "found",  "none",     "stored",  "already there",
-        "deleted", "absent", "no depth", "no page",
+        "deleted", "absent", "no depth", "no page", "differs",
     };
     printf("op %" PRIu32 " %s %" PRIu32, number, kinds[operation[0]],
            chargefile_four(operation + 2));
