@@ -258,10 +258,15 @@ twoWriters =
 
 -- two bursars strike out a call, each only at the charge that they saw: it is there at the charge of the second, who has to wait for the page. Another
 -- call, which is there at charge zero, is not struck out at the charge of the first
+abbrev bursarsFor : List ℕ → Job
+bursarsFor turns = onePage (call 2 50 ∷ call 3 0 ∷ []) (op Delete 2 60 ∷ op Delete 2 50 ∷ op Delete 3 60 ∷ []) turns
+
 abbrev bursars : Job
-bursars =
-    onePage (call 2 50 ∷ call 3 0 ∷ []) (op Delete 2 60 ∷ op Delete 2 50 ∷ op Delete 3 60 ∷ [])
-    (times-of 2 0 ++ times-of 2 1 ++ times-of 4 0 ++ times-of 5 1 ++ times-of 6 2)
+bursars = bursarsFor (times-of 2 0 ++ times-of 2 1 ++ times-of 4 0 ++ times-of 5 1 ++ times-of 6 2)
+
+-- the same, stopped on turn (d) of the first
+abbrev bursarsStopped : Job
+bursarsStopped = bursarsFor (times-of 2 0 ++ times-of 2 1 ++ times-of 2 0)
 
 -- job E; job E stopped after 7 turns; an insert told "no page"; one whose call is there; one that goes to a new page; and those above
 abbrev jobs : List Job
@@ -279,6 +284,7 @@ jobs =
     ∷ twoWriters
     ∷ taken
     ∷ bursars
+    ∷ bursarsStopped
     ∷ []
 
 -- each with the result that is read from what is written
