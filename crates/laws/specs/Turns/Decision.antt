@@ -1,5 +1,5 @@
 -- What turn (d) of an operation that holds page x comes to, by what it finds of its call there. A proof about all turns goes through these cases,
--- and not through the text of `decided`.
+-- and not through the text of `decided`; one that asks nothing of the answer, through the three of `decided-case`.
 use Prim.Native.Nat.{ℕ, suc, _+_, _<_, _≤_}
 use mathlib.Core.Path.{_≡_, refl}
 use mathlib.Core.Bool.{true, false}
@@ -18,10 +18,16 @@ use Rattle.spec.specs.Code.{stored, alreadyThere, absent, differs}
 use Rattle.spec.specs.File.{pageAt, foundOf}
 use Rattle.spec.specs.Job.{strikes}
 use Rattle.spec.specs.Split.{allShare}
-use Rattle.spec.specs.State.{State, Move, same, go, goLock}
+use Rattle.spec.specs.State.{State, Answer, Move, same, go, goLock}
 use Rattle.spec.specs.Turn.{newCount, refused, placed, decided}
 use Rattle.laws.specs.Tools.{if-case}
 use Rattle.laws.specs.Turns.Says.{Says, isThere, isAbsent, isNoDepth, isNoPage, isDiffering}
+
+-- the pages of a split are taken and locked
+abbrev pub taking : State → Op → ℕ → Move
+taking s op x =
+    let n : ℕ = newCount (s .file) op x in
+    goLock (Split x (s .file .used) n (WriteNew 1)) (suc (s .file .used)) n true n
 
 pub data Decision (s : State) (op : Op) (x : ℕ) : Option Rec → Move → Type 0 where
   searching : {o : Option Rec} → op .kind ≡ Search → Decision s op x o (go (Held x Unlock) same)
@@ -37,9 +43,7 @@ pub data Decision (s : State) (op : Op) (x : ℕ) : Option Rec → Move → Type
       → s .file .c ≤ length (pageAt (s .file) x .records)
       → allShare (s .file .g) (pageAt (s .file) x .records) (op .call) ≡ false
       → s .file .used + newCount (s .file) op x ≤ s .file .limit
-      → Decision s op x none
-      (goLock (Split x (s .file .used) (newCount (s .file) op x) (WriteNew 1)) (suc (s .file .used)) (newCount (s .file) op x) true
-      (newCount (s .file) op x))
+      → Decision s op x none (taking s op x)
 
 module _ (s : State) (op : Op) (x : ℕ) where
   placed-decision : op .kind ≡ Insert → Decision s op x none (placed s op x (pageAt (s .file) x))
@@ -63,3 +67,21 @@ module _ (s : State) (op : Op) (x : ℕ) where
 
   pub decision : (o : Option Rec) → Decision s op x o (decided s op (op .kind) (foundOf x o))
   decision o = decided-decision _ o refl
+
+  -- it unlocks next, or writes the page next, or is to split a page that is full
+  pub decided-case
+      : (P : Move → Type 0)
+      → ((a : Answer) → P (go (Held x Unlock) a))
+      → P (go (Held x WritePage) same)
+      → (s .file .c ≤ length (pageAt (s .file) x .records) → s .file .used + newCount (s .file) op x ≤ s .file .limit → P (taking s op x))
+      → (o : Option Rec)
+      → P (decided s op (op .kind) (foundOf x o))
+  decided-case P u w t o = by-case (decision o)
+    where
+      by-case : {o : Option Rec} {m : Move} → Decision s op x o m → P m
+      by-case (searching e) = u _
+      by-case (refusedMissing l y) = u _
+      by-case (refusedThere l y) = u _
+      by-case (toStore i l) = w
+      by-case (toStrike e d) = w
+      by-case (toSplit i l d n) = t l n

@@ -4,12 +4,11 @@ use Prim.Native.Nat.{ℕ, zero, suc, _+_, _-_, _<_, _≤_}
 use mathlib.Core.Path.{_≡_, refl, sym, _∙_}
 use mathlib.Core.Logic.{inl, by-cases}
 use mathlib.Core.List.{List}
-use mathlib.Core.Option.{Option, none}
+use mathlib.Core.Option.{none}
 use native.Mathlib.Omega.{arith}
 use native.Mathlib.Decide.{ℕ-discrete}
 use lib.ListN.{length, getD}
 use lib.Seq.{getD-set-other}
-use Rattle.spec.specs.declared.Rec.{Rec}
 use Rattle.spec.specs.declared.Op.{Op}
 use Rattle.spec.specs.declared.Task.{Task}
 use Rattle.spec.specs.declared.Task.the-variants.{Verify, Release, Decide, WritePage, WriteOld, Unlock}
@@ -32,7 +31,7 @@ use Rattle.laws.specs.Turns.Good.{Fine, MayPage, Good, page-other}
 use Rattle.laws.specs.Turns.Legal.{i-legal}
 use Rattle.laws.specs.Turns.States.{who, stateAt-suc}
 use Rattle.laws.specs.Turns.Whole.{whole}
-use Rattle.laws.specs.Turns.Decision.{Decision, searching, refusedMissing, refusedThere, toStore, toStrike, toSplit, decision}
+use Rattle.laws.specs.Turns.Decision.{decided-case}
 
 -- the turns of a split, until the old page is written, leave its page
 pub split-page
@@ -134,17 +133,9 @@ module _ (op : Op) (x b n : ℕ) (p : Grown) where
   own-frozen s Done fi h = tt
 
 -- turn (d) writes no page
-decided-page : {s : State} {op : Op} {x : ℕ} {o : Option Rec} {m : Move} → Decision s op x o m → m .page ≡ none
-decided-page (searching e) = refl
-decided-page (refusedMissing l y) = refl
-decided-page (refusedThere l y) = refl
-decided-page (toStore i l) = refl
-decided-page (toStrike e t) = refl
-decided-page (toSplit i l d u) = refl
-
 decide-page : (s : State) (op : Op) (x : ℕ) (st : Stage) → st ≡ Held x Decide → turn s op st .page ≡ none
 unfolding turn heldTurn
-decide-page s op x st e = rw e (decided-page (decision s op x _))
+decide-page s op x st e = rw e (decided-case s op x (λ (m : Move). m .page ≡ none) (λ a. refl) refl (λ l u. refl) _)
 
 -- a turn of operation k, where operation i is under way
 module _ (ops : List Op) (s : State) (i k : ℕ) (good : Good ops s) where

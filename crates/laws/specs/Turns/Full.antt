@@ -38,7 +38,7 @@ use Rattle.laws.specs.Turns.Work.{Plan}
 use Rattle.laws.specs.Turns.States.{who, stateAt-suc, stateAt-zero}
 use Rattle.laws.specs.Turns.Whole.{whole}
 use Rattle.laws.specs.Turns.Frozen.{split-page, held-page}
-use Rattle.laws.specs.Turns.Decision.{Decision, searching, refusedMissing, refusedThere, toStore, toStrike, toSplit, decision}
+use Rattle.laws.specs.Turns.Decision.{decided-case}
 
 abbrev pub FullPage : File → ℕ → Type 0
 FullPage f x = f .c ≤ length (pageAt f x .records)
@@ -99,15 +99,6 @@ module _ (s : State) (op : Op) where
   looked-full x none = tt
   looked-full x (some r) = tt
 
-  decided-full : {x : ℕ} {o : Option Rec} {m : Move} → Decision s op x o m → After m
-  unfolding pageAt tableAfter
-  decided-full (searching e) = tt
-  decided-full (refusedMissing l y) = tt
-  decided-full (refusedThere l y) = tt
-  decided-full (toStore i l) = tt
-  decided-full (toStrike e t) = tt
-  decided-full (toSplit i l d u) = l
-
   written-full : (x : ℕ) (k : Kind) → After (written s op x k (pageAt (s .file) x))
   unfolding written
   written-full x Search = tt
@@ -115,10 +106,10 @@ module _ (s : State) (op : Op) where
   written-full x Delete = tt
 
   held-full : (x : ℕ) (t : Task) → After (heldTurn s op x t)
-  unfolding heldTurn verified oldWritten
+  unfolding heldTurn verified oldWritten pageAt tableAfter
   held-full x Verify = if-case After (λ e. tt) (λ e. tt)
   held-full x (Release y) = tt
-  held-full x Decide = decided-full (decision s op x _)
+  held-full x Decide = decided-case s op x After (λ a. tt) tt (λ l u. l) _
   held-full x WritePage = written-full x _
   held-full x WriteOld = tt
   held-full x Unlock = tt

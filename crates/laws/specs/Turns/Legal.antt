@@ -24,7 +24,7 @@ use Rattle.spec.specs.Basics.{if}
 use Rattle.spec.specs.File.{Page, zeroPage, pageAt, entryAt, foundOf}
 use Rattle.spec.specs.Job.{noOp}
 use Rattle.spec.specs.State.{State, Answer, same, Move, go, goLock, goPage}
-use Rattle.spec.specs.Turn.{homeOf, entryOf, recOf, planOf, newCount, goesTo, begin, looked, reread, written, verified, oldWritten, heldTurn, entriesFrom, splitTurn, turn}
+use Rattle.spec.specs.Turn.{homeOf, entryOf, recOf, planOf, newCount, goesTo, begin, looked, reread, decided, written, verified, oldWritten, heldTurn, entriesFrom, splitTurn, turn}
 use Rattle.spec.specs.Run.{tableAfter, fileAfter, stageOf, idle, step}
 use Rattle.spec.specs.Proper.{PageNo}
 use Rattle.laws.specs.Tools.{if-case}
@@ -35,7 +35,7 @@ use Rattle.laws.specs.Turns.Rows.{step-case}
 use Rattle.laws.specs.Turns.Locks.{Holds, Frees}
 use Rattle.laws.specs.Turns.Plans.{plan-same, entries-case}
 use Rattle.laws.specs.Turns.Good.{Planned, FineTask, FinePart, Fine, Legal, Good, planned-after, fine-part, fine-after, held-no, act-good, tick-good, goes-span}
-use Rattle.laws.specs.Turns.Decision.{Decision, searching, refusedMissing, refusedThere, toStore, toStrike, toSplit, decision}
+use Rattle.laws.specs.Turns.Decision.{decided-case}
 
 module _ (ops : List Op) (s : State) (op : Op) (good : Good ops s) where
   abbrev L : Stage → Move → Type 0
@@ -143,16 +143,14 @@ module _ (ops : List Op) (s : State) (op : Op) (good : Good ops s) where
         entry = tt;
       }
 
-  decided-legal : {x : ℕ} {o : Option Rec} {m : Move} → PageNo (s .file) x → Decision s op x o m → L (Held x Decide) m
+  decided-legal : (x : ℕ) (o : Option Rec) → PageNo (s .file) x → L (Held x Decide) (decided s op (op .kind) (foundOf x o))
   unfolding newCount planOf
-  decided-legal h (searching e) = calm (λ p. Iff·rfl) (h, tt)
-  decided-legal h (refusedMissing l y) = calm (λ p. Iff·rfl) (h, tt)
-  decided-legal h (refusedThere l y) = calm (λ p. Iff·rfl) (h, tt)
-  decided-legal h (toStore i l) = calm (λ p. Iff·rfl) (h, tt)
-  decided-legal h (toStrike e t) = calm (λ p. Iff·rfl) (h, tt)
-  decided-legal {x} h (toSplit i l d u) =
+  decided-legal x o h =
+      decided-case s op x (L (Held x Decide)) (λ a. calm (λ p. Iff·rfl) (h, tt)) (calm (λ p. Iff·rfl) (h, tt))
+      (λ l u.
       let w = count-full (s .file .c) (s .file .g) (pageAt (s .file) x) (recOf op) l in
-      claim-legal x _ h refl (omega arith) u
+      claim-legal x _ h refl (omega arith) u)
+      o
 
   page-legal : (x : ℕ) (t : Task) (a : Answer) (q : Page) → PageNo (s .file) x → L (Held x t) (goPage (Held x Unlock) a x q)
   page-legal x t a q h =
@@ -231,7 +229,7 @@ module _ (ops : List Op) (s : State) (op : Op) (good : Good ops s) where
   held-legal x Verify h k =
       if-case (L (Held x Verify)) (λ e. calm (λ p. Iff·rfl) (h, tt)) (λ e. calm (λ p. Iff·rfl) (h, entry-no))
   held-legal x (Release y) h k = unlock-legal x (Release y) (Lock y) (λ p e. e) k
-  held-legal x Decide h k = decided-legal h (decision s op x _)
+  held-legal x Decide h k = decided-legal x _ h
   held-legal x WritePage h k = written-legal x _ _ h
   held-legal x WriteOld h k = page-legal x WriteOld _ _ h
   held-legal x Unlock h k = unlock-legal x Unlock Done (λ p e. e) tt

@@ -23,7 +23,7 @@ use Rattle.spec.specs.Key.{index}
 use Rattle.spec.specs.File.{Page, File, zeroPage, pageAt, entryAt, foundOf}
 use Rattle.spec.specs.Split.{added}
 use Rattle.spec.specs.State.{State, Answer, same, Move, go, goLock, goPage, goEntry}
-use Rattle.spec.specs.Turn.{planOf, goesTo, begin, looked, reread, cleared, written, verified, oldWritten, heldTurn, entriesFrom, splitTurn, turn}
+use Rattle.spec.specs.Turn.{planOf, goesTo, begin, looked, reread, decided, cleared, written, verified, oldWritten, heldTurn, entriesFrom, splitTurn, turn}
 use Rattle.spec.specs.Run.{tableAfter, directoryAfter, fileAfter}
 use Rattle.spec.specs.Proper.{In, PageNo}
 use Rattle.laws.specs.Tools.{if-case, first}
@@ -38,7 +38,7 @@ use Rattle.laws.specs.Turns.Lookup.{page-not, page-dir, page-same, entry
 use Rattle.laws.specs.Turns.SplitPlan.{serves, old-stays, new-goes}
 use Rattle.laws.specs.Turns.Does.{Coherent}
 use Rattle.laws.specs.Turns.Owned.{BusyTask, Busy, Owned, OwnsFrom, OwnsTask, OwnsPart, Owns, stay-after, Keeps}
-use Rattle.laws.specs.Turns.Decision.{Decision, searching, refusedMissing, refusedThere, toStore, toStrike, toSplit, decision}
+use Rattle.laws.specs.Turns.Decision.{decided-case}
 
 kept-page : (f : File) (st : Stage) (a n x : ℕ) → pageAt (fileAfter (goLock st a n false 0) f) x ≡ pageAt f x
 unfolding pageAt tableAfter
@@ -88,16 +88,14 @@ module _ (ops : List Op) (s : State) (op : Op) (good : Good ops s) (coherent : C
   looked-keeps x none = pause (λ p h. h) tt
   looked-keeps x (some r) = pause (λ p h. h) tt
 
-  decided-keeps : {x : ℕ} {r : Option Rec} {m : Move} → Owned f x → Decision s op x r m → K (Held x Decide) m
+  decided-keeps : (x : ℕ) (r : Option Rec) → Owned f x → K (Held x Decide) (decided s op (op .kind) (foundOf x r))
   unfolding pageAt entryAt tableAfter directoryAfter
-  decided-keeps o (searching e) = pause (λ p h. h) tt
-  decided-keeps o (refusedMissing l y) = pause (λ p h. h) tt
-  decided-keeps o (refusedThere l y) = pause (λ p h. h) tt
-  decided-keeps o (toStore i l) = pause (λ p h. h) tt
-  decided-keeps o (toStrike e t) = pause (λ p h. h) tt
-  decided-keeps o (toSplit i l d u) =
+  decided-keeps x r o =
+      decided-case s op x (K (Held x Decide)) (λ a. pause (λ p h. h) tt) (pause (λ p h. h) tt)
+      (λ l u.
       calm (λ p n h. h) (λ p l h. inr (omega arith))
-      (record { stay = λ k i z. o k i; later = λ k i l. o k i; moved = λ k i l. absurd (omega arith) })
+      (record { stay = λ k i z. o k i; later = λ k i l. o k i; moved = λ k i l. absurd (omega arith) }))
+      r
 
   -- a turn that writes page y as q
   put
@@ -268,7 +266,7 @@ module _ (ops : List Op) (s : State) (op : Op) (good : Good ops s) (coherent : C
   unfolding heldTurn verified
   held-keeps x Verify h w o u = if-case (K (Held x Verify)) (λ e. pause (λ p h. h) tt) (λ e. pause (λ p h. h) tt)
   held-keeps x (Release y) h w o u = pause (λ p h. h) tt
-  held-keeps x Decide h w o u = decided-keeps (o (λ h. h)) (decision s op x _)
+  held-keeps x Decide h w o u = decided-keeps x _ (o (λ h. h))
   held-keeps x WritePage h w o u = written-keeps x _ (h .0)
   held-keeps x WriteOld h w o u = old-keeps x (h .0) (w .0) w u
   held-keeps x Unlock h w o u = pause (λ p h. h) tt

@@ -38,7 +38,7 @@ use Rattle.laws.specs.Turns.Does.{Coherent, Unreached, fresh}
 use Rattle.laws.specs.Turns.Owned.{Stay, OwnsTask, Owns}
 use Rattle.laws.specs.Turns.Settled.{Settled}
 use Rattle.laws.specs.Turns.Depths.{plan-low, plan-deeper}
-use Rattle.laws.specs.Turns.Decision.{Decision, searching, refusedMissing, refusedThere, toStore, toStrike, toSplit, decision}
+use Rattle.laws.specs.Turns.Decision.{decided-case}
 
 -- page q of a file begins entry e: its pattern does
 abbrev pub BeginsAt : File → Page → ℕ → Type 0
@@ -94,14 +94,6 @@ module _ (ops : List Op) (s : State) (op : Op) (good : Good ops s) (coherent : C
   looked-writes x none = calm
   looked-writes x (some r) = calm
 
-  decided-writes : {x : ℕ} {o : Option Rec} {m : Move} → Decision s op x o m → W (Held x Decide) m
-  decided-writes (searching e) = calm
-  decided-writes (refusedMissing l y) = calm
-  decided-writes (refusedThere l y) = calm
-  decided-writes (toStore i l) = calm
-  decided-writes (toStrike e t) = calm
-  decided-writes (toSplit i l d u) = calm
-
   written-writes : (x : ℕ) (k : Kind) → W (Held x WritePage) (written s op x k (pageAt f x))
   unfolding written added cleared
   written-writes x Search = calm
@@ -148,7 +140,7 @@ module _ (ops : List Op) (s : State) (op : Op) (good : Good ops s) (coherent : C
   unfolding heldTurn verified
   held-writes x Verify w u = if-case (W (Held x Verify)) (λ e. calm) (λ e. calm)
   held-writes x (Release y) w u = calm
-  held-writes x Decide w u = decided-writes (decision s op x _)
+  held-writes x Decide w u = decided-case s op x (W (Held x Decide)) (λ a. calm) calm (λ l u. calm) _
   held-writes x WritePage w u = written-writes x _
   held-writes x WriteOld w u = old-writes x (w .0) u
   held-writes x Unlock w u = calm
