@@ -5,10 +5,12 @@
     old: a text that the file has once
     new: what is put in its place
 """
-import pathlib, sys
+import pathlib, re, sys
 from collections import namedtuple
 
 ROOT = pathlib.Path(__file__).resolve().parent.parent
+LAWS = ROOT / "crates/laws/specs"
+HEAD = re.compile(r" *(?:pub )?(\S+) :|(?:pub )?(\S+)$")  # of a theorem, also in a section; a name may have its line alone
 
 # crate: the one that is changed; places: where it must be refused; pairs: its replacements (file, old, new)
 Edit = namedtuple("Edit", "name crate places pairs")
@@ -46,6 +48,18 @@ def wrong_programs():
 def wrong_definitions():
     """Those that .ci/edits puts to the theorems."""
     return [read("spec", path) for path in sorted((ROOT / "tests/edits").glob("*.edit"))]
+
+
+def heads(lines):
+    """The names of the theorems that begin on these lines."""
+    return [head[1] or head[2] for head in map(HEAD.match, lines) if head]
+
+
+def named(at):
+    """The files of a place, by their names without ending: those of the folder, or the one, that have the theorem, where one is named."""
+    files = [LAWS / f"{at[0]}.antt"] if not (LAWS / at[0]).is_dir() else sorted((LAWS / at[0]).glob("*.antt"))
+    there = [path for path in files if path.is_file() and (len(at) == 1 or at[1] in heads(path.read_text().splitlines()))]
+    return {path.relative_to(LAWS).with_suffix("").as_posix() for path in there}
 
 
 def misfit(edit):
