@@ -40,10 +40,7 @@ pub fn rec_of(op: Op) -> Rec
 fn strikes_out(asked: u32, held: u32) -> bool
     ensures { λ r. ⌜ r ≡ strikes asked held ⌝ }
 {
-    if asked == 0 {
-        return true;
-    }
-    asked == held
+    asked == 0 || asked == held
 }
 
 // The call stays in page x, which is split: its own entry goes to none of the new pages.
