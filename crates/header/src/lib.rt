@@ -21,10 +21,11 @@ pub struct Header {
 }
 
 impl Header {
-    // "Header, 32 bytes: version (2 bytes, 1)": the version of jobs and of charge files. A result has a version of its own.
+    // "Header, 32 bytes"
     pub const SIZE: usize = 32;
 
-    pub const VERSION: usize = 1;
+    // "Job version is 2": of jobs and of charge files. A result has a version of its own.
+    pub const VERSION: usize = 2;
 
     // "The limits belong to the job kind itself: depth 0 to 8, capacity 1 to 8, pages 1 to 256, operations 0 to 256, turns 0 to 16,384"
     pub const MIN_DEPTH: usize = 0;

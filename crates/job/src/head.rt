@@ -31,7 +31,7 @@ pub fn short(job: &[u8]) -> Spot
     }
 }
 
-// 2 version: "not 1"
+// 2 version: "Job version is 2; version 1 gives refusal 2"
 pub fn wrong_version(job: &[u8]) -> Spot
     requires { ⌜ headerSize ≤ length (now job) ⌝ }
     ensures { λ r. ⌜ r ≡ spotOf (wrongVersion (now (job .entry))) ⌝ }

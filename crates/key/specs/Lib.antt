@@ -1,4 +1,4 @@
--- how a key is made
-pub mod Reversal
+-- the bytes that a key is made of, and the size of a product
+pub mod Mix
 -- the bits that two keys share
 pub mod Shared

@@ -1,63 +1,72 @@
--- The pseudo key: all that rests on its being the reversed bits of the call number. Its range, the range of an index, and that every
--- number of d bits is some call's index. No other file of `laws` opens `pseudoKey` or `reversed`.
+-- The pseudo key: all that rests on its being FNV-1a of the call number. Its range, the range of an index, and that every entry
+-- of a directory is some call's index. No other file of `laws` opens `pseudoKey`, `hashed` or `mixed`.
 use Prim.Native.Nat.{ℕ, zero, suc, _+_, _-_, _^_, _<_, _≤_, _*_, _/_, _%_}
-use mathlib.Core.Path.{_≡_, ap, _∙_}
+use mathlib.Core.Path.{_≡_, refl, sym, ap, _∙_}
+use mathlib.Core.Bool.{Bool, true, _&&_}
+use mathlib.Core.List.{List, [], _∷_}
 use mathlib.Core.Logic.{by-cases}
 use native.Mathlib.Omega.{arith}
 use native.Mathlib.Decide.{decLt}
-use native.Mathlib.Nat.{pow-suc, mul-le-mul-right, lt-of-lt-of-le}
-use lib.Pow.{shl-lt, shl-shr, shr-lt}
-use Rattle.spec.specs.Key.{reversed, pseudoKey, firstBits, index}
+use native.Mathlib.Nat.{mod-lt}
+use lib.Bits.{bitXor}
+use lib.Dec.{eqb}
+use lib.Pow.{pow-pos, shl-lt, shl-shr, shr-lt, shr-shr}
+use borrow.Author.Tests.{eqb-true}
+use Rattle.spec.specs.Bytes.{two, four}
+use Rattle.spec.specs.Job.{maxDepth}
+use Rattle.spec.specs.Key.{mixed, hashed, pseudoKey, firstBits, index}
+use Rattle.laws.specs.Tools.{and-left, and-right}
 
-double : (a r q : ℕ) → r ≤ 1 → suc (2 * a + r) * q ≤ suc a * (q * 2)
-double a r q h = omega (arith, mul-le-mul-right q h)
-
-reversed-lt : (n k acc : ℕ) → reversed n k acc < suc acc * 2 ^ n
-unfolding reversed
-reversed-lt zero k acc = omega arith
-reversed-lt (suc n) k acc =
-    rw pow-suc (lt-of-lt-of-le (reversed-lt n (k / 2) (2 * acc + k % 2)) (double acc (k % 2) (2 ^ n) (omega arith)))
+hashed-lt : (hash : ℕ) (bs : List ℕ) → hash < 2 ^ 32 → hashed hash bs < 2 ^ 32
+unfolding hashed mixed
+hashed-lt hash [] h = h
+hashed-lt hash (b ∷ bs) h = hashed-lt (mixed hash b) bs (mod-lt (bitXor b hash * 16777619) (pow-pos 32))
 
 key-lt : (call : ℕ) → pseudoKey call < 2 ^ 32
 unfolding pseudoKey
-key-lt call = reversed-lt 32 call 0
+key-lt call = hashed-lt 2166136261 (four call) (omega arith)
 
 pub index-lt : (d call : ℕ) → d ≤ 32 → index d call < 2 ^ d
 unfolding index firstBits
 index-lt d call h = let e : d + (32 - d) ≡ 32 = omega arith in shr-lt d (32 - d) (rw e (key-lt call))
 
-dist : (a b q : ℕ) → (2 * a + b) * q ≡ a * (q * 2) + (2 * 0 + b) * q
-dist a b q = omega arith
+-- a test that holds of all numbers below n
+allBelow : (ℕ → Bool) → ℕ → Bool
+allBelow f zero = true
+allBelow f (suc n) = f n && allBelow f n
 
-reversed-acc : (n k acc : ℕ) → reversed n k acc ≡ acc * 2 ^ n + reversed n k 0
-unfolding reversed
-reversed-acc zero k acc = omega arith
-reversed-acc (suc n) k acc =
-    let a = reversed-acc n (k / 2) (2 * acc + k % 2) in
-    let b = reversed-acc n (k / 2) (2 * 0 + k % 2) in
-    let d = dist acc (k % 2) (2 ^ n) in
-    rw pow-suc (a ∙ (omega arith))
+below : (f : ℕ → Bool) (n k : ℕ) → allBelow f n ≡ true → k < n → f k ≡ true
+unfolding allBelow
+below f zero k t h = absurd (omega arith)
+below f (suc n) k t h =
+    by-cases (decLt k n) (λ l. below f n k (and-right (f n) _ t) l) (λ l. let e : n ≡ k = omega arith in rw e at (and-left (f n) _ t))
 
--- every number of n bits is some number's reversal
-reversed-onto : (n y : ℕ) → y < 2 ^ n → (k : ℕ) × (reversed n k 0 ≡ y)
-unfolding reversed
-reversed-onto zero y l = (0, omega arith)
-reversed-onto (suc n) y l =
-    by-cases (decLt y (2 ^ n)) (λ h. let w = reversed-onto n y h in (2 * w .0, low (w .0) ∙ w .1))
-    (λ h. let p = pow-suc 2 n in let w = reversed-onto n (y - 2 ^ n) (omega arith) in (2 * w .0 + 1, high (w .0) ∙ (omega (arith, w .1))))
-  where
-    low : (k : ℕ) → reversed n (2 * k / 2) (2 * 0 + 2 * k % 2) ≡ reversed n k 0
-    low k = let a : 2 * k / 2 ≡ k = omega arith in let b : 2 * 0 + 2 * k % 2 ≡ 0 = omega arith in rw (a, b)
+-- A call whose pseudo key begins with the eight bits of e. Its three low bytes are 0, and after them the hash is 4ab0f7b7. The highest byte takes
+-- the place of b7 (183): times 2^24 + 403 it becomes the highest byte of the key, and 403 times 4ab0f7.. adds 148, whatever stands in that place.
+caller : ℕ → ℕ
+caller e = bitXor 183 ((e + 108) % 256) * 2 ^ 24
 
-    high : (k : ℕ) → reversed n ((2 * k + 1) / 2) (2 * 0 + (2 * k + 1) % 2) ≡ 2 ^ n + reversed n k 0
-    high k =
-        let a : (2 * k + 1) / 2 ≡ k = omega arith in
-        let b : 2 * 0 + (2 * k + 1) % 2 ≡ 1 = omega arith in
-        rw (a, b) (reversed-acc n k 1 ∙ (omega arith))
+called : ℕ → Bool
+called e = eqb (index maxDepth (caller e)) e
 
-pub index-onto : (d e : ℕ) → d ≤ 32 → e < 2 ^ d → (call : ℕ) × (index d call ≡ e)
-unfolding index firstBits pseudoKey
+all-called : allBelow called 256 ≡ true
+unfolding index firstBits pseudoKey hashed mixed four two allBelow called caller
+all-called = refl
+
+deepest-onto : (e : ℕ) → e < 2 ^ maxDepth → (call : ℕ) × (index maxDepth call ≡ e)
+unfolding called
+deepest-onto e h = (caller e, eqb-true _ _ (below called 256 e all-called h))
+
+-- fewer bits are the front of more
+pub firstBits-prefix : (l g key : ℕ) → l ≤ g → g ≤ 32 → firstBits g key / 2 ^ (g - l) ≡ firstBits l key
+unfolding firstBits
+firstBits-prefix l g key h w = shr-shr key (32 - g) (g - l) ∙ ap (λ n. key / 2 ^ n) (omega arith)
+
+-- (of up to `maxDepth` bits: calls may share a pseudo key, so there are numbers of 32 bits that are no call's)
+pub index-onto : (d e : ℕ) → d ≤ maxDepth → e < 2 ^ d → (call : ℕ) × (index d call ≡ e)
+unfolding index
 index-onto d e h l =
-    let z : d + (32 - d) ≡ 32 = omega arith in
-    let w = reversed-onto 32 (e * 2 ^ (32 - d)) (rw z at (shl-lt d (32 - d) l)) in
-    (w .0, ap (λ y. y / 2 ^ (32 - d)) (w .1) ∙ shl-shr e (32 - d))
+    let z : d + (maxDepth - d) ≡ maxDepth = omega arith in
+    let w = deepest-onto (e * 2 ^ (maxDepth - d)) (rw z at (shl-lt d (maxDepth - d) l)) in
+    let front = firstBits-prefix d maxDepth (pseudoKey (w .0)) h (omega arith) in
+    (w .0, sym front ∙ ap (λ y. y / 2 ^ (maxDepth - d)) (w .1) ∙ shl-shr e (maxDepth - d))

@@ -74,7 +74,7 @@ wrongs =
     ∷ wrong jobLate (tells (readResult resultLate) 1 1) Finds []  -- the first page read, for a search that went on
     ∷ wrong jobRising (tells (readResult resultRising) 0 1) Holds (Names ∷ [])  -- the old page for an insert whose call went to a new one
     ∷ wrong jobC (tells (readResult resultC) 0 1) Holds (Names ∷ [])
-    ∷ wrong jobC (tells (readResult resultC) 0 2) Holds (Names ∷ [])  -- a new page that it did not go to
+    ∷ wrong jobC (tells (readResult resultC) 0 3) Holds (Names ∷ [])  -- a new page that it did not go to
     ∷ wrong jobB (moved (readResult resultB) 3 (record { moment = 17; op = 0 })) Holds []  -- a moment one turn before the page has the call
     ∷ wrong jobB (tells (readResult resultB) 2 1) Decides (Names ∷ [])  -- the page that the entry named before, for a delete
     ∷ wrong jobRest (tells (readResult resultRest) 0 1) Decides (Names ∷ [])  -- another page, for an insert whose call is there

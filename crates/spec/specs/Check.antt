@@ -43,7 +43,7 @@ outside least most n = ltb n least || ltb most n
 unfoldable pub short : List ℕ → Option ℕ
 short b = when (ltb (length b) headerSize) (length b)
 
--- 2 version: "not 1". "and 0 for 2"
+-- 2 version: "Job version is 2; version 1 gives refusal 2". "and 0 for 2"
 unfoldable pub wrongVersion : List ℕ → Option ℕ
 wrongVersion b = when (not (eqb (word b versionAt) jobVersion)) versionAt
 

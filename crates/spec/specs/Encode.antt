@@ -9,7 +9,7 @@ use Rattle.spec.specs.Bytes.{two, four}
 use Rattle.spec.specs.File.{Page, File}
 use Rattle.spec.specs.Job.{Job, fileJob, Header, kindNumber, jobVersion, recordSize, directoryOffset, tableOffset, opsOffset, turnsOffset, total}
 
--- "version (2 bytes, 1); g (1); c (1); page count P (2); .. offsets of directory, page table, operations and turns, and the total length"
+-- "version (2 bytes, ..); g (1); c (1); page count P (2); .. offsets of directory, page table, operations and turns, and the total length"
 unfoldable pub headerBytes : Header → List ℕ
 headerBytes h =
     two jobVersion

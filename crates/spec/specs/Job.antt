@@ -77,13 +77,13 @@ pub record Header : Type 0 where
   pub ops : ℕ
   pub turns : ℕ
 
--- "Header, 32 bytes: version (2 bytes, 1); g (1); c (1); page count P (2); pages in use U (2); operation count m (2); turn count (2);"
+-- "Header, 32 bytes: version (2 bytes, ..); g (1); c (1); page count P (2); pages in use U (2); operation count m (2); turn count (2);"
 abbrev pub headerSize : ℕ
 headerSize = 32
 
--- of jobs and of charge files; a result has a version of its own (Result.antt)
+-- "Job version is 2": of jobs and of charge files; a result has a version of its own (Result.antt)
 abbrev pub jobVersion : ℕ
-jobVersion = 1
+jobVersion = 2
 
 abbrev pub versionAt : ℕ
 versionAt = 0

@@ -1,18 +1,25 @@
 -- "The file": pseudo keys, the bits that they begin with, and directory indices.
 -- Of the pseudo key itself no more is used than that it has 32 bits and that every entry is some call's index: two calls may share a pseudo key.
-use Prim.Native.Nat.{ℕ, zero, suc, _+_, _-_, _*_, _/_, _%_, _^_}
+use Prim.Native.Nat.{ℕ, zero, suc, _-_, _*_, _/_, _%_, _^_}
 use mathlib.Core.Bool.{Bool}
+use mathlib.Core.List.{List, [], _∷_}
+use lib.Bits.{bitXor}
 use lib.Dec.{eqb}
 use Rattle.spec.specs.Basics.{if}
+use Rattle.spec.specs.Bytes.{four}
 
--- the lowest n bits of k, reversed, behind the bits of acc
-unfoldable pub reversed : ℕ → ℕ → ℕ → ℕ
-reversed zero k acc = acc
-reversed (suc n) k acc = reversed n (k / 2) (2 * acc + k % 2)
+-- "exclusive-or, then times 16777619 modulo 2^32": one byte of FNV-1a, 32 bits. (The byte first: `bitXor` goes through the bits of its first number.)
+unfoldable pub mixed : ℕ → ℕ → ℕ
+mixed hash byte = bitXor byte hash * 16777619 % 2 ^ 32
 
--- "Its pseudo key is the call number with its 32 bits reversed"
+-- "for each of the .. bytes"
+unfoldable pub hashed : ℕ → List ℕ → ℕ
+hashed hash [] = hash
+hashed hash (b ∷ bs) = hashed (mixed hash b) bs
+
+-- "the pseudo key is FNV-1a, 32 bits, as published: start at 2166136261, for each of the four bytes, lowest first"
 unfoldable pub pseudoKey : ℕ → ℕ
-pseudoKey call = reversed 32 call 0
+pseudoKey call = hashed 2166136261 (four call)
 
 -- the first d bits of a pseudo key, read as a number
 unfoldable pub firstBits : ℕ → ℕ → ℕ

@@ -35,6 +35,7 @@ pub mod Months
 -- by computation: the marked items, the refusal table, files tidied
 pub mod Opened
 pub mod Worked
+pub mod OneKey
 pub mod Marked
 pub mod Refusals
 pub mod Tidying

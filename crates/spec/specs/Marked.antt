@@ -1,5 +1,6 @@
--- The ten marked items of "Jobs worked through" as one table, from job bytes to result bytes, refusal or printed text. One proof covers its rows.
--- A second table is for calls that rise, a third for the pages told with answers, and a fourth for deletes at a charge.
+-- The marked items of "Jobs worked through" as one table, from job bytes to result bytes, refusal or printed text. One proof covers its rows.
+-- A second table is for calls that rise, a third for the pages told with answers, a fourth for deletes at a charge, and a fifth for calls that share
+-- a pseudo key.
 use Prim.Native.Nat.{ℕ}
 use mathlib.Core.Path.{_≡_, refl}
 use mathlib.Core.List.{List, [], _∷_, _++_, map}
@@ -17,7 +18,8 @@ use Rattle.spec.specs.Check.{Lent}
 use Rattle.spec.specs.Outcome.{resultBytes, outcome, bufferAfter}
 use Rattle.spec.specs.Report.{printed}
 use Rattle.spec.specs.Claims.{fed}
-use Rattle.spec.specs.Worked.{jobB, resultB, textB, jobLong, jobLate, resultLate, jobRest, resultRest, jobC, resultC, jobInsert, resultD, jobG, resultG, jobH, resultH, jobI, resultI, jobJ, resultJ, jobRising, resultRising, jobPut, resultPut, jobTaken, resultTaken, jobStrike, resultStruck, resultLeft, jobBursars, textBursars}
+use Rattle.spec.specs.Worked.{jobB, resultB, textB, jobLong, jobLate, resultLate, jobRest, resultRest, jobC, resultC, jobDeep, resultDeep, jobInsert, resultD, resultE2, jobG, resultG, jobH, resultH, jobI, resultI, jobJ, resultJ, jobRising, resultRising, jobPut, resultPut, jobTaken, resultTaken, jobStrike, resultStruck, resultLeft, jobBursars, textBursars}
+use Rattle.spec.specs.OneKey.{jobTwo, resultTwo, jobThree, resultThree}
 use Rattle.spec.specs.Opened.{opened}
 
 -- what is lent: a result buffer of 1,000 bytes that are all 7, 5 rows, and the least working memory
@@ -77,15 +79,16 @@ replayB = record { replies = reply 1 70 ∷ reply 5 70 ∷ reply 2 0 ∷ reply 3
 
 abbrev marked : List Item
 marked =
-    (key 1 ⇒ number 0x80000000)  -- A
-    ∷ (key 6 ⇒ number 0x60000000)
-    ∷ (key 0 ⇒ number 0)
+    (key 1 ⇒ number 0xfb69b604)  -- A
+    ∷ (key 6 ⇒ number 0xab3d76f3)
+    ∷ (key 0 ⇒ number 0x4b95f515)
     ∷ (job jobB ⇒ ran resultB)  -- B
     ∷ (print jobB ⇒ bytes textB)
-    ∷ (list jobB ⇒ holds replayB (2 => 50 ∷ 4 => 90 ∷ []))
+    ∷ (list jobB ⇒ holds replayB (4 => 90 ∷ 2 => 50 ∷ []))
     ∷ (job jobC ⇒ ran resultC)  -- C
     ∷ (job (jobInsert 3) ⇒ ran (resultD 8 0))  -- D
-    ∷ (job (jobInsert 9) ⇒ ran (resultD 7 0))  -- E2
+    ∷ (job (jobInsert 9) ⇒ ran resultE2)  -- E2
+    ∷ (job jobDeep ⇒ ran resultDeep)  -- (C) with calls 5 and 6
     ∷ (job (jobInsert 1) ⇒ ran (resultD 4 10))  -- F
     ∷ (job jobG ⇒ ran resultG)  -- G
     ∷ (job jobH ⇒ ran resultH)  -- H
@@ -143,6 +146,23 @@ deletes =
 at-charge : map (λ (m : Item). says (m .asked)) deletes ≡ map (λ (m : Item). m .paper) deletes
 unfolding opened fed
 at-charge = refl
+
+-- Two calls that share a pseudo key are told apart by their numbers; and where as many as fill a page share all 32 bits with the call that is
+-- inserted, no split parts them
+abbrev oneKey : List Item
+oneKey =
+    (key 474790318 ⇒ number 0x47c607a0)
+    ∷ (key 141231736 ⇒ number 0x47c607a0)
+    ∷ (job jobTwo ⇒ ran resultTwo)
+    ∷ (key 2266965870 ⇒ number 0x0004b900)
+    ∷ (key 2390834178 ⇒ number 0x0004b900)
+    ∷ (key 2723606448 ⇒ number 0x0004b900)
+    ∷ (job jobThree ⇒ ran resultThree)
+    ∷ []
+
+kept-apart : map (λ (m : Item). says (m .asked)) oneKey ≡ map (λ (m : Item). m .paper) oneKey
+unfolding opened
+kept-apart = refl
 
 -- a list of some thousand turns computes too
 long-list : says (job jobLong) ≡ ran resultB

@@ -8,17 +8,17 @@ use Rattle.spec.specs.Check.{Lent, Fault, firstFault}
 use Rattle.spec.specs.Outcome.{bufferAfter, rowsAfter, workAfter}
 use Rattle.spec.specs.Opened.{opened}
 
--- g 1, c 2, P 3, U 2; page 1 holds call 2, page 2 calls 1 and 3, page 3 is not in use; search 3 and insert 4; turns 0 and 1
+-- g 1, c 2, P 3, U 2; page 1 holds call 4, page 2 calls 1 and 3, page 3 is not in use; search 3 and insert 2; turns 0 and 1
 abbrev base : List ℕ
 base =
-    1 ∷ 0 ∷ 1 ∷ 2 ∷ 3 ∷ 0 ∷ 2 ∷ 0 ∷ 2 ∷ 0 ∷ 2 ∷ 0 ∷  -- version, g, c, P, U, m, turns
+    2 ∷ 0 ∷ 1 ∷ 2 ∷ 3 ∷ 0 ∷ 2 ∷ 0 ∷ 2 ∷ 0 ∷ 2 ∷ 0 ∷  -- version, g, c, P, U, m, turns
     32 ∷ 0 ∷ 0 ∷ 0 ∷ 36 ∷ 0 ∷ 0 ∷ 0 ∷ 96 ∷ 0 ∷ 0 ∷ 0 ∷ 116 ∷ 0 ∷ 0 ∷ 0 ∷ 120 ∷ 0 ∷ 0 ∷ 0 ∷  -- offsets of directory, page table, operations and turns; total
     1 ∷ 0 ∷ 2 ∷ 0 ∷  -- directory
-    1 ∷ 1 ∷ 0 ∷ 0 ∷ 2 ∷ 0 ∷ 0 ∷ 0 ∷ 50 ∷ 0 ∷ 0 ∷ 0 ∷ 0 ∷ 0 ∷ 0 ∷ 0 ∷ 0 ∷ 0 ∷ 0 ∷ 0 ∷  -- page 1
+    1 ∷ 1 ∷ 0 ∷ 0 ∷ 4 ∷ 0 ∷ 0 ∷ 0 ∷ 50 ∷ 0 ∷ 0 ∷ 0 ∷ 0 ∷ 0 ∷ 0 ∷ 0 ∷ 0 ∷ 0 ∷ 0 ∷ 0 ∷  -- page 1
     1 ∷ 2 ∷ 1 ∷ 0 ∷ 1 ∷ 0 ∷ 0 ∷ 0 ∷ 10 ∷ 0 ∷ 0 ∷ 0 ∷ 3 ∷ 0 ∷ 0 ∷ 0 ∷ 70 ∷ 0 ∷ 0 ∷ 0 ∷  -- page 2
     0 ∷ 0 ∷ 0 ∷ 0 ∷ 0 ∷ 0 ∷ 0 ∷ 0 ∷ 0 ∷ 0 ∷ 0 ∷ 0 ∷ 0 ∷ 0 ∷ 0 ∷ 0 ∷ 0 ∷ 0 ∷ 0 ∷ 0 ∷  -- page 3
     1 ∷ 0 ∷ 3 ∷ 0 ∷ 0 ∷ 0 ∷ 0 ∷ 0 ∷ 0 ∷ 0 ∷  -- operation 0
-    2 ∷ 0 ∷ 4 ∷ 0 ∷ 0 ∷ 0 ∷ 90 ∷ 0 ∷ 0 ∷ 0 ∷  -- operation 1
+    2 ∷ 0 ∷ 2 ∷ 0 ∷ 0 ∷ 0 ∷ 90 ∷ 0 ∷ 0 ∷ 0 ∷  -- operation 1
     0 ∷ 0 ∷ 1 ∷ 0 ∷  -- turns
     []
 
@@ -29,7 +29,7 @@ empty = set (set (set base 37 0) 40 0) 44 0
 -- a charge file, g 1, c 3, P 2, U 2; page 1 has these three calls, page 2 has none
 abbrev calls : ℕ → ℕ → ℕ → List ℕ
 calls x y z =
-    1 ∷ 0 ∷ 1 ∷ 3 ∷ 2 ∷ 0 ∷ 2 ∷ 0 ∷ 0 ∷ 0 ∷ 0 ∷ 0 ∷  -- version, g, c, P, U, m, turns
+    2 ∷ 0 ∷ 1 ∷ 3 ∷ 2 ∷ 0 ∷ 2 ∷ 0 ∷ 0 ∷ 0 ∷ 0 ∷ 0 ∷  -- version, g, c, P, U, m, turns
     32 ∷ 0 ∷ 0 ∷ 0 ∷ 36 ∷ 0 ∷ 0 ∷ 0 ∷ 92 ∷ 0 ∷ 0 ∷ 0 ∷ 92 ∷ 0 ∷ 0 ∷ 0 ∷ 92 ∷ 0 ∷ 0 ∷ 0 ∷  -- offsets of directory, page table, operations and turns; total
     1 ∷ 0 ∷ 2 ∷ 0 ∷  -- directory
     1 ∷ 3 ∷ 0 ∷ 0 ∷ x ∷ 0 ∷ 0 ∷ 0 ∷ 10 ∷ 0 ∷ 0 ∷ 0 ∷ y ∷ 0 ∷ 0 ∷ 0 ∷ 20 ∷ 0 ∷ 0 ∷ 0 ∷ z ∷ 0 ∷ 0 ∷ 0 ∷ 30 ∷ 0 ∷ 0 ∷ 0 ∷  -- page 1
@@ -71,7 +71,8 @@ edits =
     ∷ other (set (set base 76 1) 32 0) 5 32  -- two faults: the earlier row
     ∷ other (set (set base 116 2) 68 1) 8 68
     ∷ other (set (set base 118 2) 116 2) 10 116  -- the lower place
-    ∷ edit 0 2 2 0  -- version
+    ∷ edit 0 1 2 0  -- version
+    ∷ edit 0 3 2 0
     ∷ edit 1 1 2 0
     ∷ edit 2 9 3 2  -- depth
     ∷ edit 3 0 3 3  -- capacity
@@ -127,23 +128,23 @@ edits =
     ∷ edit 32 2 7 32
     ∷ edit 36 0 7 34  -- another page's does
     ∷ edit 40 1 8 40  -- pseudo key
-    ∷ edit 60 2 8 60
+    ∷ edit 60 0 8 60
     ∷ edit 68 1 8 68  -- the same call as the record before it
     ∷ edit 60 5 8 68  -- below the one before it
     ∷ edit 63 1 8 68  -- by the last byte of the one before it
     ∷ other (set (set base 60 5) 68 4) 8 68  -- both at one record
     ∷ other (set (set base 68 1) 40 1) 8 40  -- the earlier page first: pattern there before order, and order before pattern
-    ∷ other (set (set (set (set base 60 2) 37 2) 40 4) 48 2) 8 48
-    ∷ fine enough (calls 0 2 4)  -- rising calls, from 0 on
-    ∷ other (calls 0 0 2) 8 48
-    ∷ other (calls 4 2 6) 8 48
-    ∷ other (calls 2 6 4) 8 56
-    ∷ other (calls 2 4 4) 8 56
-    ∷ other (calls 6 4 2) 8 48  -- the first of two
-    ∷ other (calls 6 4 6) 8 48  -- the call is earlier in the page: out of order before that
-    ∷ other (calls 2 6 2) 8 56  -- and there
-    ∷ other (calls 4 2 7) 8 48  -- in one page, the lower place: order before pattern
-    ∷ other (calls 2 5 4) 8 48  -- and pattern before order
+    ∷ other (set (set (set (set base 60 0) 37 2) 40 11) 48 4) 8 48
+    ∷ fine enough (calls 0 4 7)  -- rising calls, from 0 on
+    ∷ other (calls 0 0 4) 8 48
+    ∷ other (calls 7 4 9) 8 48
+    ∷ other (calls 4 9 7) 8 56
+    ∷ other (calls 4 7 7) 8 56
+    ∷ other (calls 9 7 4) 8 48  -- the first of two
+    ∷ other (calls 9 7 9) 8 48  -- the call is earlier in the page: out of order before that
+    ∷ other (calls 4 9 4) 8 56  -- and there
+    ∷ other (calls 7 4 8) 8 48  -- in one page, the lower place: order before pattern
+    ∷ other (calls 4 8 7) 8 48  -- and pattern before order
     ∷ edit 96 0 9 96  -- kind
     ∷ edit 96 4 9 96
     ∷ edit 97 1 9 96  -- spare byte
@@ -156,7 +157,7 @@ edits =
     ∷ edit 118 2 10 118
     ∷ edit 119 1 10 118
     ∷ lending 143 1 24575 (set base 118 2) 10 118  -- 11 comes last
-    ∷ lending 0 0 0 (set base 0 2) 2 0
+    ∷ lending 0 0 0 (set base 0 1) 2 0
     ∷ lending 143 2 24576 base 11 0  -- result buffer
     ∷ lending 143 1 0 base 11 0
     ∷ lending 144 1 24576 base 11 1  -- lent table

@@ -150,7 +150,7 @@ module _ {h : Header} {b : List ℕ} (o : Given h b) (left : List ℕ) (known : 
   own-fills = fills (h .depth) shallow
 
   -- and it is the tidied file's
-  pub owners : (d : ℕ) → d ≤ 32 → Each (λ q. q .depth ≤ d) ps → spread d left 1 ≡ ownersFrom (2 ^ d) d ps 0
+  pub owners : (d : ℕ) → d ≤ 8 → Each (λ q. q .depth ≤ d) ps → spread d left 1 ≡ ownersFrom (2 ^ d) d ps 0
   owners d l w = rw depths (spread-owners d ps l tiles w)
 
   -- where page k stands, pages having s bytes each

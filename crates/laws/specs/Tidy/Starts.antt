@@ -13,6 +13,7 @@ use lib.Pow.{pow-pos, split}
 use Rattle.spec.specs.Basics.{Each}
 use Rattle.spec.specs.Key.{index}
 use Rattle.spec.specs.File.{Page, zeroPage}
+use Rattle.spec.specs.Job.{maxDepth}
 use Rattle.spec.specs.Split.{newOwner}
 use Rattle.spec.specs.Tidy.{firstEntry, ownersFrom}
 use Rattle.laws.specs.Tools.{each-at}
@@ -193,11 +194,11 @@ module _ (d : ℕ) (ps : List Page) (tiles : Tiles 0 0 ps) (shallow : Each (λ q
       spread-entry m (index d k) l (index-prefix (getD ps m zeroPage .depth) d k (each-at ps m zeroPage l shallow) w ∙ i)
       ∙ sym (newOwner-is d ps 1 k m zeroPage w shallow (tiles-lone tiles k) l i)
 
-  entry-same : d ≤ 32 → (j : ℕ) → j < 2 ^ d → getD (spread d (depths ps) 1) j 0 ≡ newOwner d ps 1 j
+  entry-same : d ≤ maxDepth → (j : ℕ) → j < 2 ^ d → getD (spread d (depths ps) 1) j 0 ≡ newOwner d ps 1 j
   entry-same w j l =
       let (k, e) = index-onto d j w l in
       let z = index-lt 0 k (omega arith) in
-      rw e at (call-same w k (tiles-cover tiles k (omega arith)))
+      rw e at (call-same (omega arith) k (tiles-cover tiles k (omega arith)))
 
   spread-size : length (spread d (depths ps) 1) ≡ 2 ^ d
   spread-size = sym (rw length-map at (spread-length d (depths ps) 1)) ∙ tiles-total
@@ -205,7 +206,7 @@ module _ (d : ℕ) (ps : List Page) (tiles : Tiles 0 0 ps) (shallow : Each (λ q
 -- THE DIRECTORY IS THEIRS
 pub spread-owners
     : (d : ℕ) (ps : List Page)
-    → d ≤ 32
+    → d ≤ maxDepth
     → Tiles 0 0 ps
     → Each (λ q. q .depth ≤ d) ps
     → spread d (map (λ (q : Page). q .depth) ps) 1 ≡ ownersFrom (2 ^ d) d ps 0

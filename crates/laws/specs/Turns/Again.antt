@@ -58,11 +58,11 @@ settled-ok ops s good coherent t n =
       fit = good .fit;
       pages = λ x p. coherent .pages x;
       names = λ e l.
-          let k = index-onto g e g32 l in
+          let k = index-onto g e (good .fit .depth) l in
           let x = entryAt (s .file) (index g (k .0)) in
           rw (← k .1) (in-begins g (pageAt (s .file) x) (k .0) (coherent .pages x .deep) g32 (coherent .home (k .0)));
       owner = λ e x l p b.
-          let k = index-onto g e g32 l in
+          let k = index-onto g e (good .fit .depth) l in
           let i = begins-in g (pageAt (s .file) x) (k .0) (coherent .pages x .deep) g32 (rw (← k .1) at b) in
           rw (← k .1) (t .owner x p (λ j. n j x) (k .0) i);
       unused = t .unused;

@@ -15,6 +15,7 @@ use Rattle.spec.specs.declared.Op.{Op}
 use Rattle.spec.specs.Basics.{if, Each}
 use Rattle.spec.specs.Key.{index, bit, begins}
 use Rattle.spec.specs.File.{Page, File, zeroPage, pageAt}
+use Rattle.spec.specs.Job.{maxDepth}
 use Rattle.spec.specs.Split.{half, Grown, joined, grow, newOwner}
 use Rattle.spec.specs.Turn.{homeOf, recOf, planOf, newCount, goesTo}
 use Rattle.spec.specs.Proper.{In, Fit, PageOk}
@@ -200,15 +201,16 @@ grow-by g c (suc m) b k last a p r q w d i num =
 -- the new page that an entry of page p goes to, where b + 1 is the first new page's number: 0 where it stays
 pub newOwner-by
     : (g c m b : ℕ) (p : Page) (r : Rec) (e : ℕ)
-    → g ≤ 32
+    → g ≤ maxDepth
     → p .depth + m ≤ 32
     → Each (λ z. z .depth ≤ g) (grow c m p r .old ∷ grow c m p r .news)
     → e < 2 ^ g
     → begins g (p .depth) (p .pattern) e ≡ true
     → newOwner g (grow c m p r .news) (suc b) e
     ≡ byLast b (lastOne g (r .call) e (length (grow c m p r .news)) (p .depth) 1 0)
-newOwner-by g c m b p r e w d ds l h =
-    let k = index-onto g e w l in
+newOwner-by g c m b p r e most d ds l h =
+    let k = index-onto g e most l in
+    let w : g ≤ 32 = omega arith in
     let deep : p .depth ≤ g = omega (arith, first (grow-deep c m p r), first ds) in
     let i = begins-in g p (k .0) deep w (rw (k .1) h) in
     rw (k .1) at (by-last b _ _ (grow-by g c m b 1 0 b p r (k .0) w d i (omega arith) ds))
@@ -226,7 +228,7 @@ module _ (f : File) (op : Op) (x : ℕ) (fit : Fit f) (ok : PageOk (f .g) (f .c)
       → goesTo f op x b e ≡ byLast b (lastSplit f op x e)
   unfolding goesTo planOf newCount
   goes-by b e l h =
-      newOwner-by (f .g) (f .c) (suc (f .g)) b (pageAt f x) (recOf op) e (fit-32 f fit) (omega (arith, fit .depth, ok .deep))
+      newOwner-by (f .g) (f .c) (suc (f .g)) b (pageAt f x) (recOf op) e (fit .depth) (omega (arith, fit .depth, ok .deep))
       (each-imp (λ q m. m .ok .deep) (made f op x fit ok pl)) l h
 
   -- where it goes at all, by its last split

@@ -1,20 +1,15 @@
 -- The indices of a call at two depths: the shorter is the front of the longer. Whether a page's pattern begins an entry, and whether a call
 -- is of the page, are one question; and a call of a page is of one of its halves, by its next bit.
 use Prim.Native.Nat.{ℕ, suc, _+_, _-_, _^_, _<_, _≤_, _*_, _/_, _%_}
-use mathlib.Core.Path.{_≡_, refl, sym, ap, _∙_}
+use mathlib.Core.Path.{_≡_, refl, sym, _∙_}
 use mathlib.Core.Bool.{Bool, true, false}
 use native.Mathlib.Omega.{arith}
-use lib.Pow.{shr-shr}
 use borrow.Author.Tests.{eqb-true, eqb-false, eq-eqb, ne-eqb}
 use Rattle.spec.specs.Key.{pseudoKey, firstBits, index, bit, begins}
 use Rattle.spec.specs.File.{Page, File}
 use Rattle.spec.specs.Split.{digit}
 use Rattle.spec.specs.Proper.{In, Fit}
-use Rattle.laws.specs.Key.{index-lt}
-
-firstBits-prefix : (l g key : ℕ) → l ≤ g → g ≤ 32 → firstBits g key / 2 ^ (g - l) ≡ firstBits l key
-unfolding firstBits
-firstBits-prefix l g key h w = shr-shr key (32 - g) (g - l) ∙ ap (λ n. key / 2 ^ n) (omega arith)
+use Rattle.laws.specs.Key.{index-lt, firstBits-prefix}
 
 pub firstBits-half : (l key : ℕ) → l < 32 → firstBits (suc l) key / 2 ≡ firstBits l key
 firstBits-half l key h = let e : suc l - l ≡ 1 = omega arith in rw e at (firstBits-prefix l (suc l) key (omega arith) h)

@@ -108,7 +108,7 @@ module _ (ops : List Op) (s : State) (op : Op) (good : Good ops s) (coherent : C
     where
       names : (e : ℕ) → e < 2 ^ f .g → BeginsAt f (planOf f op x .old) e → entryAt f e ≡ x
       names e l b =
-          let k = index-onto (f .g) e (fit-32 f (good .fit)) l in
+          let k = index-onto (f .g) e (good .fit .depth) l in
           let deep = first (made f op x (good .fit) (coherent .pages x) pl) .ok .deep in
           let i = begins-in (f .g) (planOf f op x .old) (k .0) deep (fit-32 f (good .fit)) (rw (k .1) b) in
           let inside = first (serves f op x (good .fit) (coherent .pages x) pl) .inside (k .0) i in
