@@ -1,7 +1,8 @@
 // Pseudo keys: the key of a call, the bits that it begins with, and how many leading bits two keys share.
 ghost use mathlib.Core.Path.{_≡_};
-ghost use Prim.Native.Nat.{_*_, _%_, _^_, _≤_, _<_};
-ghost use Rattle.spec.specs.Key.{mixed, pseudoKey, index, bit, shared};
+ghost use Prim.Native.Nat.{suc, _*_, _%_, _^_, _≤_, _<_};
+ghost use lib.Dec.{eqb};
+ghost use Rattle.spec.specs.Key.{mixed, pseudoKey, firstBits, index, shared};
 
 // Multiplication modulo 2^32: the remainder of the whole product.
 pub fn times(a: u32, b: u32) -> u32
@@ -29,20 +30,28 @@ pub fn pseudo_key(call: u32) -> u32
     mix(three, high / 256 % 256)
 }
 
-// The call's first `depth` pseudo-key bits, as a number. (A shift of 64 bits, since the shift at depth 0 is by 32.)
+// The first `depth` bits of a pseudo key, as a number. (A shift of 64 bits, since the shift at depth 0 is by 32.)
+pub fn first_bits(key: u32, depth: usize) -> usize
+    requires { ⌜ depth ≤ 32 ⌝ }
+    ensures { λ r. ⌜ (r ≡ firstBits depth key) × (r < 2 ^ depth) ⌝ }
+{
+    (key as usize) >> (32 - depth)
+}
+
+// The call's first `depth` pseudo-key bits, as a number.
 pub fn index(call: u32, depth: usize) -> usize
     requires { ⌜ depth ≤ 32 ⌝ }
     ensures { λ r. ⌜ (r ≡ index depth call) × (r < 2 ^ depth) ⌝ }
 {
-    (pseudo_key(call) as usize) >> (32 - depth)
+    first_bits(pseudo_key(call), depth)
 }
 
-// Pseudo-key bit number d, from the top and from 0.
-pub fn bit(call: u32, d: usize) -> bool
+// Bit number d of a pseudo key, from the top and from 0. (Of the key and not of the call, so that a loop over bits has the key worked out before it.)
+pub fn bit(key: u32, d: usize) -> bool
     requires { ⌜ d < 32 ⌝ }
-    ensures { λ r. ⌜ r ≡ bit d call ⌝ }
+    ensures { λ r. ⌜ r ≡ eqb (firstBits (suc d) key % 2) 1 ⌝ }
 {
-    index(call, d + 1) % 2 == 1
+    first_bits(key, d + 1) % 2 == 1
 }
 
 // "How many leading bits two pseudo keys share": the leading zeros of their exclusive-or.

@@ -14,7 +14,7 @@ use lib.Pow.{pow-pos, shl-lt, shl-shr, shr-lt, shr-shr}
 use borrow.Author.Tests.{eqb-true}
 use Rattle.spec.specs.Bytes.{two, four}
 use Rattle.spec.specs.Job.{maxDepth}
-use Rattle.spec.specs.Key.{mixed, hashed, pseudoKey, firstBits, index}
+use Rattle.spec.specs.Key.{mixed, hashed, pseudoKey, firstBits, index, bit}
 use Rattle.laws.specs.Tools.{and-left, and-right}
 
 hashed-lt : (hash : ℕ) (bs : List ℕ) → hash < 2 ^ 32 → hashed hash bs < 2 ^ 32
@@ -26,9 +26,22 @@ key-lt : (call : ℕ) → pseudoKey call < 2 ^ 32
 unfolding pseudoKey
 key-lt call = hashed-lt 2166136261 (four call) (omega arith)
 
+pub firstBits-lt : (d key : ℕ) → d ≤ 32 → key < 2 ^ 32 → firstBits d key < 2 ^ d
+unfolding firstBits
+firstBits-lt d key h l = let e : d + (32 - d) ≡ 32 = omega arith in shr-lt d (32 - d) (rw e l)
+
 pub index-lt : (d call : ℕ) → d ≤ 32 → index d call < 2 ^ d
-unfolding index firstBits
-index-lt d call h = let e : d + (32 - d) ≡ 32 = omega arith in shr-lt d (32 - d) (rw e (key-lt call))
+unfolding index
+index-lt d call h = firstBits-lt d (pseudoKey call) h (key-lt call)
+
+-- the bits of a key are those of the call whose pseudo key it is
+pub bits-of : (d key call : ℕ) → key ≡ pseudoKey call → firstBits d key ≡ index d call
+unfolding index
+bits-of d key call e = ap (firstBits d) e
+
+pub bit-of : (d key call : ℕ) → key ≡ pseudoKey call → eqb (firstBits (suc d) key % 2) 1 ≡ bit d call
+unfolding bit
+bit-of d key call e = ap (λ i. eqb (i % 2) 1) (bits-of (suc d) key call e)
 
 -- a test that holds of all numbers below n
 allBelow : (ℕ → Bool) → ℕ → Bool

@@ -65,13 +65,14 @@ pub fn old_piece(call: u32, depth: usize, n: usize) -> Piece
     requires { ⌜ depth + n ≤ 32 ⌝ }
     ensures { λ q. ⌜ q ≡ keptPiece n depth call ⌝ }
 {
+    let key = key::pseudo_key(call);
     let end = depth + n;
     let mut d = depth;
     while d < end {
-        if key::bit(call, d) {
+        if key::bit(key, d) {
             return Piece {
                 depth: d + 1,
-                pattern: 2 * key::index(call, d),
+                pattern: 2 * key::first_bits(key, d),
                 own: false,
             };
         }
@@ -79,7 +80,7 @@ pub fn old_piece(call: u32, depth: usize, n: usize) -> Piece
     }
     Piece {
         depth: end,
-        pattern: key::index(call, end),
+        pattern: key::first_bits(key, end),
         own: true,
     }
 }
@@ -89,13 +90,14 @@ pub fn new_piece(call: u32, depth: usize, n: usize, i: usize) -> Piece
     requires { ⌜ (1 ≤ i) × (i ≤ n) × (depth + n ≤ 32) ⌝ }
     ensures { λ q. ⌜ q ≡ newPiece (n - i) (depth + (i - 1)) call ⌝ }
 {
+    let key = key::pseudo_key(call);
     let d = depth + (i - 1);
-    if key::bit(call, d) {
+    if key::bit(key, d) {
         return old_piece(call, d + 1, n - i);
     }
     Piece {
         depth: d + 1,
-        pattern: 2 * key::index(call, d) + 1,
+        pattern: 2 * key::first_bits(key, d) + 1,
         own: false,
     }
 }

@@ -42,12 +42,13 @@ pub fn last_one(g: usize, call: u32, e: usize, n: usize, d: usize) -> usize
     requires { ⌜ (d + n ≤ g) × (g ≤ 8) ⌝ }
     ensures { λ r. ⌜ (r ≡ lastOne g call e n d 1 0) × (r ≤ n) ⌝ }
 {
+    let key = key::pseudo_key(call);
     let mut last: usize = 0;
     let mut k: usize = 0;
     while k < n {
         let one = entry_bit(g, d + k, e);
         last = pick(one, k + 1, last);
-        if one != key::bit(call, d + k) {
+        if one != key::bit(key, d + k) {
             return last;
         }
         k += 1;

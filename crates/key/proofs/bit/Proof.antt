@@ -1,19 +1,17 @@
 -- `key::bit` meets its contract: the last of the first d + 1 bits.
 use native.Mathlib.Numerals.{add-one}
-use Rattle.spec.specs.Key.{bit}
 use borrow.Author.Needs.{needs}
 use Rattle.key.proofs.bit.Statement.{statement}
 use Rattle.key.proofs.bit.Tie as tie
 
-add-index : tie.Need-add-index
-add-index c = search needs
+add-first-bits : tie.Need-add-first-bits
+add-first-bits c = search needs
 
-index-requires : tie.Need-index-requires
-index-requires c κs = search needs
+first-bits-requires : tie.Need-first-bits-requires
+first-bits-requires c κs = search needs
 
 returns : tie.Need-returns
-unfolding bit
-returns c = rw (c .index .ensures .0, add-one)
+returns c = rw (c .first-bits .ensures .0, add-one)
 
 pub bit-spec : {M : Type 1} → statement M
-bit-spec = tie.close (tie.spec add-index index-requires returns)
+bit-spec = tie.close (tie.spec add-first-bits first-bits-requires returns)

@@ -5,6 +5,7 @@ use Prim.Native.Nat.{_+_, _-_, _≤_}
 use native.Mathlib.Omega.{arith}
 use borrow.Author.Tests.{not-true, not-false}
 use Rattle.spec.specs.Key.{bit}
+use Rattle.laws.specs.Key.{bit-of}
 use Rattle.turn.specs.Steps.{entryBit, lastOne}
 use Rattle.turn.proofs.LastOne.{next, next-le, last-none, last-on, last-here}
 use borrow.Author.Needs.{needs}
@@ -12,11 +13,14 @@ use Rattle.turn.proofs.entries.last_one.Statement.{statement}
 use Rattle.turn.proofs.entries.last_one.Tie as tie
 
 abbrev Inv-loop : tie.InvT-loop
-Inv-loop g call e n d last₀ k₀ last k =
+Inv-loop g call e n d key last₀ k₀ last k =
     (k ≤ n) × (last ≤ k) × (lastOne g call e n d 1 0 ≡ lastOne g call e (n - k) (d + k) (k + 1) last)
 
 abbrev μ-loop : tie.MeasureT-loop
-μ-loop g call e n d last₀ k₀ last k = n - k
+μ-loop g call e n d key last₀ k₀ last k = n - k
+
+pseudo-key-requires : tie.Need-pseudo-key-requires Inv-loop μ-loop
+pseudo-key-requires c κs = search needs
 
 loop-holds : tie.Need-loop-holds Inv-loop μ-loop
 loop-holds c = (omega arith, omega arith, rw (sub-zero, add-zero))
@@ -37,13 +41,13 @@ pick-requires c κs = search needs
 picked
     : (c : tie.After-pick Inv-loop μ-loop)
     → c .pick .result
-    ≡ next (c .before .before .before .before .args .g) (c .before .before .before .before .args .e) (c .before .before .before .before .args .d) (c .before .before .before .loop .k) (c .before .before .before .loop .last)
+    ≡ next (c .before .before .before .before .before .args .g) (c .before .before .before .before .before .args .e) (c .before .before .before .before .before .args .d) (c .before .before .before .loop .k) (c .before .before .before .loop .last)
 unfolding next
 picked c = rw (c .pick .ensures, c .before .entry-bit .ensures)
 
 picked-le : (c : tie.After-pick Inv-loop μ-loop) → c .pick .result ≤ c .before .before .before .loop .k + 1
 picked-le c =
-    let a = c .before .before .before .before .args in
+    let a = c .before .before .before .before .before .args in
     rw (picked c) (next-le (a .g) (a .e) (a .d) (c .before .before .before .loop .k) (c .before .before .before .loop .last) (c .before .before .before .loop .inv .1))
 
 add-bit : tie.Need-add-bit Inv-loop μ-loop
@@ -52,12 +56,21 @@ add-bit c = omega arith
 bit-requires : tie.Need-bit-requires Inv-loop μ-loop
 bit-requires c κs = omega arith
 
+-- the bit that it is compared with is the call's
+same-bit
+    : (c : tie.After-bit Inv-loop μ-loop)
+    → c .bit .result
+    ≡ bit (c .before .before .before .before .before .before .args .d + c .before .before .before .before .loop .k) (c .before .before .before .before .before .before .args .call)
+same-bit c =
+    let own = c .before .before .before .before .before .pseudo-key in
+    c .bit .ensures ∙ bit-of _ (own .result) _ (own .ensures)
+
 returns : tie.Need-returns Inv-loop μ-loop
 returns c =
-    let a = c .before .before .before .before .before .before .args in
+    let a = c .before .before .before .before .before .before .before .args in
     let l = c .before .before .before .before .before .loop in
     let apart : Bool·beq (entryBit (a .g) (a .d + l .k) (a .e)) (bit (a .d + l .k) (a .call)) ≡ false =
-    rw (← c .before .before .before .entry-bit .ensures, ← c .before .bit .ensures) (not-true _ (c .if1 .taken)) in (
+    rw (← c .before .before .before .entry-bit .ensures, ← same-bit (c .before)) (not-true _ (c .if1 .taken)) in (
       sym (l .inv .2 ∙ last-here (a .g) (a .call) (a .e) (a .n) (a .d) (l .k) (l .last) (omega arith) apart ∙ sym (picked (c .before .before))),
       omega (arith, picked-le (c .before .before)),
     )
@@ -70,10 +83,10 @@ loop-less c = omega arith
 
 loop-again : tie.Need-loop-again Inv-loop μ-loop
 loop-again c =
-    let a = c .before .before .before .before .before .before .args in
+    let a = c .before .before .before .before .before .before .before .args in
     let l = c .before .before .before .before .before .loop in
     let same : Bool·beq (entryBit (a .g) (a .d + l .k) (a .e)) (bit (a .d + l .k) (a .call)) ≡ true =
-    rw (← c .before .before .before .entry-bit .ensures, ← c .before .bit .ensures) (not-false _ (c .if1 .left)) in (
+    rw (← c .before .before .before .entry-bit .ensures, ← same-bit (c .before)) (not-false _ (c .if1 .left)) in (
       omega arith,
       picked-le (c .before .before),
       rw (picked (c .before .before)) (l .inv .2 ∙ last-on (a .g) (a .call) (a .e) (a .n) (a .d) (l .k) (l .last) (omega arith) same),
@@ -81,7 +94,7 @@ loop-again c =
 
 returns-2 : tie.Need-returns-2 Inv-loop μ-loop
 returns-2 c =
-    let a = c .before .before .args in
+    let a = c .before .before .before .args in
     let l = c .before .loop in
     (sym (l .inv .2 ∙ last-none (a .g) (a .call) (a .e) (a .n) (a .d) (l .k) (l .last) (omega arith)), omega arith)
 
@@ -91,6 +104,7 @@ last-one-spec =
     (tie.spec
     Inv-loop
     μ-loop
+    pseudo-key-requires
     loop-holds
     add-entry-bit
     entry-bit-requires
