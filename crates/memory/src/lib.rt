@@ -198,14 +198,14 @@ pub fn remove_from(work: &mut [u8], c: usize, x: u16, call: u32)
     page::remove(&mut work[a..e], call);
 }
 
-// The old page of a split. The outcome is the definition's whatever number of splits it allows, if that is enough.
-pub fn write_old_page(work: &mut [u8], c: usize, x: u16, r: Rec)
-    requires { ⌜ Within (now work) c x × Splits c (pageIn c (now work) x) r ⌝ }
+// The old page of n splits. The outcome is the definition's whatever number of splits it allows, if that is enough.
+pub fn write_old_page(work: &mut [u8], c: usize, x: u16, n: usize, r: Rec)
+    requires { ⌜ Within (now work) c x × Splits c (pageIn c (now work) x) r × (n ≡ splitCount (pageIn c (now work) x) (r .call)) ⌝ }
     ensures { λ _. ⌜ ((g : ℕ) → Enough g (pageIn c (now (work .entry)) x) r → now (work .exit) ≡ withPage c (now (work .entry)) x (grow c (suc g) (pageIn c (now (work .entry)) x) r .old)) ⌝ }
 {
     let a = place(c, x);
     let e = a + (4 + 8 * c);
-    pieces::write_old(&mut work[a..e], r);
+    pieces::write_old(&mut work[a..e], n, r);
 }
 
 // n bytes, from a lower place to a higher one that they do not reach.
@@ -228,15 +228,15 @@ fn copy_page(work: &mut [u8], c: usize, x: u16, y: u16)
     copy_up(work, place(c, x), place(c, y), 4 + 8 * c);
 }
 
-// New page number i, from 1, of the split of page x becomes page y. It is cut out of a copy of page x.
-pub fn write_new_page(work: &mut [u8], c: usize, x: u16, y: u16, i: u16, r: Rec)
-    requires { ⌜ Within (now work) c y × (x < y) × Splits c (pageIn c (now work) x) r × (1 ≤ i) × (i ≤ splitCount (pageIn c (now work) x) (r .call)) ⌝ }
+// New page number i, from 1, of n splits of page x becomes page y. It is cut out of a copy of page x.
+pub fn write_new_page(work: &mut [u8], c: usize, x: u16, y: u16, n: u16, i: u16, r: Rec)
+    requires { ⌜ Within (now work) c y × (x < y) × Splits c (pageIn c (now work) x) r × (n ≡ splitCount (pageIn c (now work) x) (r .call)) × (1 ≤ i) × (i ≤ n) ⌝ }
     ensures { λ _. ⌜ ((g : ℕ) → Enough g (pageIn c (now (work .entry)) x) r → now (work .exit) ≡ withPage c (now (work .entry)) y (getD (grow c (suc g) (pageIn c (now (work .entry)) x) r .news) (i - 1) zeroPage)) ⌝ }
 {
     copy_page(work, c, x, y);
     let a = place(c, y);
     let e = a + (4 + 8 * c);
-    pieces::write_new(&mut work[a..e], i as usize, r);
+    pieces::write_new(&mut work[a..e], n as usize, i as usize, r);
 }
 
 // ---- the whole file

@@ -40,14 +40,21 @@ pub fn least_shared(page: &[u8], call: u32) -> usize
     least
 }
 
-// "Count n new pages": by the shared bits.
+// "Count n new pages": of a page of this depth, by the least number of shared bits.
+pub fn splits(least: usize, depth: usize) -> usize
+    requires { ⌜ least ≤ 32 ⌝ }
+    ensures { λ r. ⌜ r ≡ least + 1 - depth ⌝ }
+{
+    let end = least + 1;
+    if depth <= end { end - depth } else { 0 }
+}
+
 pub fn split_count(page: &[u8], call: u32) -> usize
     requires { ⌜ pageSize (byte (now page) 1) ≤ length (now page) ⌝ }
     ensures { λ r. ⌜ r ≡ splitCount (pageOf (now (page .entry))) call ⌝ }
 {
-    let d = page::depth(page);
-    let end = least_shared(page, call) + 1;
-    if d <= end { end - d } else { 0 }
+    let least = least_shared(page, call);
+    splits(least, page::depth(page))
 }
 
 // ---- the pieces
@@ -118,9 +125,9 @@ fn write_piece(page: &mut [u8], q: Piece, r: Rec)
     }
 }
 
-// The split page itself, in place. The outcome is the definition's whatever number of splits it allows, if that is enough.
-pub fn write_old(page: &mut [u8], r: Rec)
-    requires { ⌜ Sound (now page) × Splits (room (length (now page))) (pageOf (now page)) r ⌝ }
+// The split page itself, in place, after n splits. The outcome is the definition's whatever number of splits it allows, if that is enough.
+pub fn write_old(page: &mut [u8], n: usize, r: Rec)
+    requires { ⌜ Sound (now page) × Splits (room (length (now page))) (pageOf (now page)) r × (n ≡ splitCount (pageOf (now page)) (r .call)) ⌝ }
     ensures { λ _.
         ⌜ ((g : ℕ)
         → Enough g (pageOf (now (page .entry))) r
@@ -128,16 +135,16 @@ pub fn write_old(page: &mut [u8], r: Rec)
         ≡ pageBytes (room (length (now (page .entry)))) (grow (room (length (now (page .entry)))) (suc g) (pageOf (now (page .entry))) r .old)) ⌝ }
 {
     let d = page::depth(page);
-    let n = split_count(page, r.call);
     write_piece(page, old_piece(r.call, d, n), r);
 }
 
-// New page number i, from 1, in a copy of the split page.
-pub fn write_new(page: &mut [u8], i: usize, r: Rec)
+// New page number i, from 1, of n splits, in a copy of the split page.
+pub fn write_new(page: &mut [u8], n: usize, i: usize, r: Rec)
     requires { ⌜ Sound (now page)
         × Splits (room (length (now page))) (pageOf (now page)) r
+        × (n ≡ splitCount (pageOf (now page)) (r .call))
         × (1 ≤ i)
-        × (i ≤ splitCount (pageOf (now page)) (r .call)) ⌝ }
+        × (i ≤ n) ⌝ }
     ensures { λ _.
         ⌜ ((g : ℕ)
         → Enough g (pageOf (now (page .entry))) r
@@ -146,6 +153,5 @@ pub fn write_new(page: &mut [u8], i: usize, r: Rec)
         (getD (grow (room (length (now (page .entry)))) (suc g) (pageOf (now (page .entry))) r .news) (i - 1) zeroPage)) ⌝ }
 {
     let d = page::depth(page);
-    let n = split_count(page, r.call);
     write_piece(page, new_piece(r.call, d, n, i), r);
 }

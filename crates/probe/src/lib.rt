@@ -63,8 +63,10 @@ pub extern "C" fn probe_write_old(page: &mut [u8], call: u32, charge: u32)
     requires { ⌜ Sound (now page) × Splits (room (length (now page))) (pageOf (now page)) (recFor call charge) ⌝ }
     ensures { λ _. ⌜ ((g : ℕ) → Enough g (pageOf (now (page .entry))) (recFor call charge) → now (page .exit) ≡ pageBytes (room (length (now (page .entry)))) (grow (room (length (now (page .entry)))) (suc g) (pageOf (now (page .entry))) (recFor call charge) .old)) ⌝ }
 {
+    let n = pieces::split_count(page, call);
     pieces::write_old(
         page,
+        n,
         Rec {
             call: call,
             charge: charge,
@@ -78,8 +80,10 @@ pub extern "C" fn probe_write_new(page: &mut [u8], i: usize, call: u32, charge: 
     requires { ⌜ Sound (now page) × Splits (room (length (now page))) (pageOf (now page)) (recFor call charge) × (1 ≤ i) × (i ≤ splitCount (pageOf (now page)) call) ⌝ }
     ensures { λ _. ⌜ ((g : ℕ) → Enough g (pageOf (now (page .entry))) (recFor call charge) → now (page .exit) ≡ pageBytes (room (length (now (page .entry)))) (getD (grow (room (length (now (page .entry)))) (suc g) (pageOf (now (page .entry))) (recFor call charge) .news) (i - 1) zeroPage)) ⌝ }
 {
+    let n = pieces::split_count(page, call);
     pieces::write_new(
         page,
+        n,
         i,
         Rec {
             call: call,

@@ -43,12 +43,11 @@ fn strikes_out(asked: u32, held: u32) -> bool
     asked == 0 || asked == held
 }
 
-// The call stays in page x, which is split: its own entry goes to none of the new pages.
-fn stays(shape: Shape, op: Op, x: u16, work: &[u8]) -> bool
-    requires { ⌜ Ready shape (now work) × Planned shape op (now work) x ⌝ }
-    ensures { λ r. ⌜ r ≡ eqb (goes shape op (now (work .entry)) x (splitCount (pageIn (shape .capacity) (now (work .entry)) x) (op .call)) (home shape op)) 0 ⌝ }
+// The call stays in page x, of which n splits are made: its own entry goes to none of the new pages.
+fn stays(shape: Shape, op: Op, x: u16, n: usize, work: &[u8]) -> bool
+    requires { ⌜ Ready shape (now work) × Planned shape op (now work) x × (n ≡ splitCount (pageIn (shape .capacity) (now work) x) (op .call)) ⌝ }
+    ensures { λ r. ⌜ r ≡ eqb (goes shape op (now (work .entry)) x n (home shape op)) 0 ⌝ }
 {
-    let n = memory::split_count_in(work, shape.capacity, x, op.call);
     let d = memory::page_depth(work, shape.capacity, x);
     entries::last_one(shape.depth, op.call, entries::home(shape, op), n, d) == 0
 }
@@ -145,10 +144,11 @@ impl Row {
         requires { ⌜ Ready shape (now work) × (self .used < 65535) × Readable shape (now work) x ⌝ }
         ensures { λ r. ⌜ out r (now (work .exit)) ≡ memFull shape op t self (now (work .entry)) x (pageIn (shape .capacity) (now (work .entry)) x) ⌝ }
     {
-        if shape.depth <= memory::least_shared_in(work, shape.capacity, x, op.call) {
+        let least = memory::least_shared_in(work, shape.capacity, x, op.call);
+        if shape.depth <= least {
             return self.settled(x, codes::NO_DEPTH, 0, t);
         }
-        let n = memory::split_count_in(work, shape.capacity, x, op.call);
+        let n = pieces::splits(least, memory::page_depth(work, shape.capacity, x));
         let u = memory::used(work);
         if shape.pages < u + n {
             return self.settled(x, codes::NO_PAGE, 0, t);
@@ -213,8 +213,9 @@ impl Row {
         requires { ⌜ Ready shape (now work) × (self .used < 65535) × Planned shape op (now work) x ⌝ }
         ensures { λ r. ⌜ out r (now (work .exit)) ≡ memOld shape op t self (now (work .entry)) x ⌝ }
     {
-        let own = stays(shape, op, x, work);
-        memory::write_old_page(work, shape.capacity, x, rec_of(op));
+        let n = memory::split_count_in(work, shape.capacity, x, op.call);
+        let own = stays(shape, op, x, n, work);
+        memory::write_old_page(work, shape.capacity, x, n, rec_of(op));
         if own {
             self.settled(x, codes::STORED, op.charge, t)
         } else {

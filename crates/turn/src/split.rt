@@ -71,7 +71,7 @@ impl Row {
         ensures { λ r. ⌜ out r (now (work .exit)) ≡ memNew shape op self (now (work .entry)) x b n i ⌝ }
     {
         let next = after_new(shape, op, x, n, i, work);
-        memory::write_new_page(work, shape.capacity, x, b + i, i, held::rec_of(op));
+        memory::write_new_page(work, shape.capacity, x, b + i, n, i, held::rec_of(op));
         self.moved(Stage::Split(x, b, n, next))
     }
 

@@ -42,9 +42,8 @@ write-new-requires c κs =
     let b = page-before o (a .pre .1) in
     let at = c .before .place in
     let g = a .args in
-    let fits : g .i ≤ splitCount (pageOf (partIn (g .c) (g .work .now) (g .x))) (g .r .call) = unfold pageIn in a .pre .4 in
     rw (lent-copy o (a .pre .1) (c .before .before .before .before .copy-page .ensures) (at .result) (at .ensures .0), part-room b)
-    (part-sound b (omega (arith, a .pre .2 .full)), unfold pageIn in a .pre .2, omega (arith, a .pre .3), omega (arith, a .pre .3, fits))
+    (part-sound b (omega (arith, a .pre .2 .full)), unfold pageIn in a .pre .2, unfold pageIn in a .pre .3, a .pre .4, a .pre .5)
 
 same-length : tie.Need-same-length
 same-length c = search needs

@@ -35,7 +35,7 @@ write-old-requires c κs =
     let g = a .args in
     let o = a .pre .0 in
     rw (lent (g .c) (g .work .now) (g .x) (c .before .place .result) (c .before .place .ensures .0), part-room o)
-    (part-sound o (omega (arith, a .pre .1 .full)), unfold pageIn in a .pre .1)
+    (part-sound o (omega (arith, a .pre .1 .full)), unfold pageIn in a .pre .1, unfold pageIn in a .pre .2)
 
 same-length : tie.Need-same-length
 same-length c = search needs

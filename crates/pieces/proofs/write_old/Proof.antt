@@ -15,23 +15,20 @@ use Rattle.pieces.proofs.write_old.Tie as tie
 -- the piece that is written
 piece
     : (c : tie.After-old-piece)
-    → let p = pageOf (c .before .before .before .before .before .before .before .args .page .now) in
-    let k = c .before .before .before .before .before .before .before .args .r .call in
+    → let p = pageOf (c .before .before .before .before .before .args .page .now) in
+    let k = c .before .before .before .before .before .args .r .call in
     c .old-piece .result ≡ keptPiece (splitCount p k) (p .depth) k
 piece c = cc
 
 depth-requires : tie.Need-depth-requires
 depth-requires c κs = omega arith
 
-split-count-requires : tie.Need-split-count-requires
-split-count-requires c κs = omega arith
-
 old-piece-requires : tie.Need-old-piece-requires
-old-piece-requires c κs = omega (arith, split-deep (c .before .before .before .before .before .before .pre .1))
+old-piece-requires c κs = omega (arith, split-deep (c .before .before .before .before .pre .1))
 
 write-piece-requires : tie.Need-write-piece-requires
 write-piece-requires c κs =
-    let a = c .before .before .before .before .before .before .before in
+    let a = c .before .before .before .before .before in
     (a .pre .0, rw (piece c) (old-fits (a .pre .1)))
 
 same-length : tie.Need-same-length
@@ -39,7 +36,7 @@ same-length c = search needs
 
 returns : tie.Need-returns
 returns c =
-    let a = c .before .before .before .before .before .before .before .before .before .before in
+    let a = c .before .before .before .before .before .before .before .before in
     let s = a .args .page .now in
     λ g h.
     c .before .before .write-piece .ensures
@@ -50,7 +47,6 @@ write-old-spec =
     tie.close
     (tie.spec
     depth-requires
-    split-count-requires
     old-piece-requires
     write-piece-requires
     same-length

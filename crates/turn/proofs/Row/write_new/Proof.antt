@@ -20,8 +20,9 @@ write-new-page-requires c κs =
       record { size = a .pre .0 .size; capacity = a .pre .0 .capacity; number = omega (arith, s .room, a .pre .4) },
       omega (arith, s .behind, a .pre .3),
       rw (c .rec-of .ensures) (s .plan .splits),
+      rw (c .rec-of .ensures) (s .count),
       a .pre .3,
-      rw (c .rec-of .ensures, ← s .count) (a .pre .4),
+      a .pre .4,
     )
 
 moved-requires : tie.Need-moved-requires

@@ -4,9 +4,6 @@ use borrow.Author.Needs.{needs}
 use Rattle.turn.proofs.held.stays.Statement.{statement}
 use Rattle.turn.proofs.held.stays.Tie as tie
 
-split-count-in-requires : tie.Need-split-count-in-requires
-split-count-in-requires c κs = search needs
-
 page-depth-requires : tie.Need-page-depth-requires
 page-depth-requires c κs = search needs
 
@@ -15,20 +12,12 @@ home-requires c κs = search needs
 
 last-one-requires : tie.Need-last-one-requires
 last-one-requires c κs =
-    let a = c .before .before .before .before in
-    (rw (c .before .page-depth .ensures .0, c .before .before .split-count-in .ensures) (plan-end (a .pre .1)), a .pre .0 .depth)
+    let a = c .before .before .before in
+    (rw (c .before .page-depth .ensures .0, a .pre .2) (plan-end (a .pre .1)), a .pre .0 .depth)
 
 returns : tie.Need-returns
 unfolding goes
-returns c =
-    rw (
-      c .last-one .ensures .0,
-      c .before .home .ensures .0,
-      c .before .before .page-depth .ensures .0,
-      c .before .before .before .split-count-in .ensures,
-    )
+returns c = rw (c .last-one .ensures .0, c .before .home .ensures .0, c .before .before .page-depth .ensures .0)
 
 pub stays-spec : {M : Type 1} → statement M
-stays-spec =
-    tie.close
-    (tie.spec split-count-in-requires page-depth-requires home-requires last-one-requires returns)
+stays-spec = tie.close (tie.spec page-depth-requires home-requires last-one-requires returns)
