@@ -125,7 +125,8 @@ fn short(job: &[u8]) -> Option<usize> {
     (job.len() < HEADER_LENGTH).then_some(job.len())
 }
 
-/// Row 2: version "not 1"; the place is "0 for 2".
+/// Row 2: a version other than 2: "version 1 gives refusal 2"; the place is "0
+/// for 2".
 fn version(job: &[u8]) -> Option<usize> {
     (two_at(job, 0) != JOB_VERSION).then_some(0)
 }

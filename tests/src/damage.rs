@@ -183,7 +183,7 @@ fn short(random: &mut Random) -> Fault {
 }
 
 fn version(random: &mut Random) -> Fault {
-    let number = random.one_of(&[0, 2, 256, 257, 65_535]);
+    let number = random.one_of(&[0, 1, 3, 256, 258, 512, 65_535]);
     Fault::new(2, 0, write(0, number, 2))
 }
 

@@ -12,6 +12,7 @@ use crate::check::page_place;
 use crate::damage::{write, Fault};
 use crate::job::Job;
 use crate::key;
+use crate::one_key;
 use crate::page::{Page, Record};
 use crate::random::Random;
 
@@ -41,8 +42,11 @@ pub fn call(job: &Job, number: usize, k: usize, call: u32) -> Option<Fault> {
 /// for is another, by its position from the front.
 pub fn misfiled(job: &Job, number: usize, k: usize, position: u32) -> Option<Fault> {
     let Page { depth, records, .. } = job.file.page(number);
-    let other = records[k].call ^ 1 << position;
-    (position < *depth).then(|| call(job, number, k, other))?
+    if position >= *depth {
+        return None;
+    }
+    let other = key::neighbour(records[k].call, position);
+    call(job, number, k, other)
 }
 
 /// The call of record `k` once more, in a later record: it is earlier in the
@@ -52,8 +56,16 @@ pub fn repeated(job: &Job, number: usize, k: usize, later: usize) -> Option<Faul
     (k < later).then(|| call(job, number, later, again))?
 }
 
-/// One byte of a call, counted from its first, with another value. In the last
-/// it is the call's highest bits that change.
+/// Another call with the key of record `k`, in its place. It belongs in the page,
+/// so it is for the order that it is met, if it is.
+pub fn of_its_key(job: &Job, number: usize, k: usize, other: u32) -> Option<Fault> {
+    let own = job.file.page(number).records[k].call;
+    let same = key::pseudo_key(other) == key::pseudo_key(own);
+    same.then(|| call(job, number, k, other))?
+}
+
+/// One byte of a call, counted from its first, with another value. Whichever it
+/// is, the key's first bits change with it.
 pub fn byte_of_call(job: &Job, number: usize, k: usize, at: usize, value: u8) -> Option<Fault> {
     let mut bytes = job.file.page(number).records[k].call.to_le_bytes();
     bytes[at] = value;
@@ -79,10 +91,8 @@ pub fn exchanged(job: &Job, number: usize, k: usize) -> Option<Fault> {
 pub fn counted(job: &Job, number: usize, count: u8) -> Option<Fault> {
     let page = job.file.page(number);
     let (held, counted) = (page.records.len(), usize::from(count));
-    let met = match (held, page.pattern) {
-        (0, 0) => 1,
-        _ => held,
-    };
+    let belongs = key::index(0, page.depth) == page.pattern as usize;
+    let met = held + usize::from(held == 0 && belongs);
     if met >= counted || counted > job.file.capacity {
         return None;
     }
@@ -107,8 +117,13 @@ pub fn some_record(random: &mut Random, job: &Job) -> Option<Fault> {
     let tried = (0..8).map(|_| {
         let number = random.one_of(&numbers);
         let k = random.below(held(number));
-        match random.below(6) {
+        match random.below(7) {
             0 => misfiled(job, number, k, random.below(8) as u32),
+            6 => {
+                let others = one_key::others(job.file.page(number).records[k].call);
+                let other = (!others.is_empty()).then(|| random.one_of(&others))?;
+                of_its_key(job, number, k, other)
+            }
             1 => repeated(job, number, random.below(k + 1), k),
             2 => exchanged(job, number, k),
             3 => byte_of_call(job, number, k, 0, random.bits() as u8),

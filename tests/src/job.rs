@@ -4,8 +4,8 @@ use crate::file::ChargeFile;
 use crate::little_endian::{four_at, push_four, push_offset, push_two, two_at};
 use crate::page::{page_length, Page};
 
-/// "Header, 32 bytes: version (2 bytes, 1)": of jobs and of charge files.
-pub const JOB_VERSION: usize = 1;
+/// "Job version is 2", of charge files too: "a charge file is a job".
+pub const JOB_VERSION: usize = 2;
 /// "Header, 32 bytes".
 pub const HEADER_LENGTH: usize = 32;
 /// "Directory: 2 bytes an entry."

@@ -22,6 +22,8 @@
 //! - [`make_asked`] and [`make_few_calls`]: the charges that random deletes ask
 //!   for, and random jobs whose operations all go for a few calls at a few
 //!   charges;
+//! - [`one_key`]: calls that share their whole pseudo key, for these and for tests
+//!   of their own;
 //! - [`by_hand`]: small jobs made by hand, with what their result says;
 //! - [`vectors`]: the stored jobs and files, with what is wanted of them;
 //! - [`tally`] and [`asked`]: how often each number of refusal was met, and each
@@ -47,6 +49,7 @@ pub mod make_few_calls;
 pub mod make_months;
 pub mod make_thin;
 pub mod make_turns;
+pub mod one_key;
 pub mod page;
 pub mod plain_list;
 pub mod random;

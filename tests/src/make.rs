@@ -1,15 +1,17 @@
 //! Random files and jobs that no row of the refusal table meets.
 //!
 //! Evenly drawn call numbers would almost never meet, so the calls come from a
-//! small pool built around a hot call: many of them share their first bits.
-//! That is what makes full pages, splits of several pages, "no depth" and
-//! duplicates common instead of rare.
+//! small pool built around a hot call: the pseudo keys of many of them share
+//! their first bits with its own, and those of some all bits. That is what makes
+//! full pages, splits of several pages, "no depth" and duplicates common instead
+//! of rare.
 
 use crate::file::ChargeFile;
 use crate::job::{Job, Kind, Operation, MAX_OPERATIONS, MAX_PAGES};
 use crate::key;
 use crate::make_asked;
 use crate::make_turns;
+use crate::one_key;
 use crate::page::Record;
 use crate::random::Random;
 
@@ -129,24 +131,31 @@ pub(crate) fn renumber(random: &mut Random, file: &mut ChargeFile) {
 /// The call numbers that records and operations are drawn from.
 pub fn pool(random: &mut Random, depth: u32) -> Vec<u32> {
     let any = random.word();
-    let hot = random.one_of(&[0, 1, u32::MAX, 0x5555_5555, any, any]);
+    let one_key = match random.below(3) {
+        0 => one_key::some_group(random),
+        _ => vec![random.one_of(&[0, 1, u32::MAX, 0x5555_5555, any, any])],
+    };
+    let hot = one_key[0];
     let size = match random.below(3) {
         0 => random.between(1, 6),
         1 => random.between(6, 24),
         _ => random.between(24, 120),
     };
-    let in_a_row = random.percent(25);
+    // Numbers one by one, or "the line card in the low eight bits".
+    let in_a_row = random.percent(25).then(|| random.one_of(&[1, 256]));
     let variety = random.one_of(&[4, 16, 256, 1 << 12]);
     let call = |i: usize| match random.below(12) {
         0 => random.word(),
         1 => random.one_of(&[0, u32::MAX, 1, 1 << 31]),
-        // "Call numbers run on one by one."
-        _ if in_a_row => hot.wrapping_add(i as u32),
-        _ => {
-            let shared = random.below(depth as usize + 3) as u32;
-            let rest = random.below(variety) as u32;
-            (hot & ((1 << shared) - 1)) | rest.wrapping_shl(shared)
-        }
+        2..=4 if one_key.len() > 1 => random.one_of(&one_key),
+        _ => match in_a_row {
+            Some(step) => hot.wrapping_add(step * i as u32),
+            None => {
+                let shared = random.below(depth as usize + 3) as u32;
+                let rest = random.below(variety) as u32;
+                key::call_with(key::index(hot, shared) as u32, shared, rest)
+            }
+        },
     };
     (0..size).map(call).collect()
 }
@@ -169,11 +178,22 @@ pub(crate) fn fill(random: &mut Random, file: &mut ChargeFile, calls: &[u32]) {
         } else {
             0
         };
-        for _ in 0..tries {
+        let one_key = one_key_now_and_then(random, pattern, depth);
+        for i in 0..tries {
             let rest = random.below(variety) as u32;
-            store(random, file, key::call_with(pattern, depth, rest));
+            let own = || key::call_with(pattern, depth, rest);
+            let call = one_key.get(i).copied().unwrap_or_else(own);
+            store(random, file, call);
         }
     }
+}
+
+/// Calls with one key that belong in a page; mostly none.
+pub(crate) fn one_key_now_and_then(random: &mut Random, pattern: u32, depth: u32) -> Vec<u32> {
+    if random.percent(85) {
+        return Vec::new();
+    }
+    one_key::some_group_with(random, pattern, depth)
 }
 
 /// Stores a call in its page if it is not there and the page has room.
@@ -217,9 +237,15 @@ pub(crate) fn operations(random: &mut Random, file: &ChargeFile, calls: &[u32]) 
         };
         let call = match random.below(10) {
             0 => random.word(),
-            1 | 2 if !held.is_empty() => random.one_of(&held),
-            // A near neighbour of a call of the pool, often still missing.
-            3..=5 => random.one_of(calls) ^ (1 << random.below(file.depth as usize + 6)),
+            1 if !held.is_empty() => random.one_of(&held),
+            2 if !held.is_empty() => {
+                let held = random.one_of(&held);
+                of_its_key(random, held).unwrap_or(held)
+            }
+            3..=5 => {
+                let near = random.one_of(calls);
+                neighbour(random, near, file.depth)
+            }
             _ => random.one_of(calls),
         };
         let charge = match kind {
@@ -232,4 +258,22 @@ pub(crate) fn operations(random: &mut Random, file: &ChargeFile, calls: &[u32]) 
     let mut operations: Vec<Operation> = (0..count).map(operation).collect();
     make_asked::ask(random, file, &mut operations);
     operations
+}
+
+/// Another call with the key of this one, if some are known.
+fn of_its_key(random: &mut Random, call: u32) -> Option<u32> {
+    let others = one_key::others(call);
+    (!others.is_empty()).then(|| random.one_of(&others))
+}
+
+/// A near neighbour of a call of the pool, often still missing: one with the same
+/// key, or one whose key has its first bits, more of them at times than a
+/// directory counts.
+fn neighbour(random: &mut Random, call: u32, depth: u32) -> u32 {
+    let of_its_key = match random.below(3) {
+        0 => of_its_key(random, call),
+        _ => None,
+    };
+    let shared = random.below(depth as usize + 6) as u32;
+    of_its_key.unwrap_or_else(|| key::neighbour(call, shared))
 }

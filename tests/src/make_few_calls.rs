@@ -7,13 +7,18 @@ use crate::job::{Job, Kind, Operation};
 use crate::make;
 use crate::make_asked::near;
 use crate::make_turns;
+use crate::one_key;
 use crate::random::Random;
 
-/// A job for few calls. Some pages are full of others, so that an insert splits
-/// them and a delete has to look for its call in another page.
+/// A job for few calls, at times all with one key. Some pages are full of others,
+/// so that an insert splits them and a delete has to look for its call in another
+/// page.
 pub fn job(random: &mut Random) -> Job {
     let mut file = make::empty_file(random);
-    let mut calls = make::pool(random, file.depth);
+    let mut calls = match random.below(5) {
+        0 => one_key::some_group(random),
+        _ => make::pool(random, file.depth),
+    };
     calls.truncate(random.between(1, 4));
     make::fill(random, &mut file, &calls);
     let charges = few_charges(random);

@@ -53,9 +53,12 @@ fn scatter(random: &mut Random, file: &mut ChargeFile) {
             continue;
         }
         let (depth, pattern) = (file.page(number).depth, file.page(number).pattern);
-        for _ in 0..random.between(1, most) {
+        let one_key = make::one_key_now_and_then(random, pattern, depth);
+        for i in 0..random.between(1, most) {
             let rest = random.below(variety) as u32;
-            make::store(random, file, key::call_with(pattern, depth, rest));
+            let own = || key::call_with(pattern, depth, rest);
+            let call = one_key.get(i).copied().unwrap_or_else(own);
+            make::store(random, file, call);
         }
     }
 }

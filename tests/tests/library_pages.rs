@@ -2,8 +2,9 @@
 
 mod states;
 
-use chargefile_tests::key::call_with;
+use chargefile_tests::key::{call_with, neighbour};
 use chargefile_tests::make;
+use chargefile_tests::one_key::{others, some_group_with};
 use chargefile_tests::page::{page_length, Page, Record};
 use chargefile_tests::random::Random;
 use chargefile_tests::seeds::{each_seed, few_seeds};
@@ -62,21 +63,26 @@ fn remove(page: &mut [u8], call: u32) {
     unsafe { probe_remove(page.as_mut_ptr(), page.len(), call) }
 }
 
-/// A page of the capacity with records that belong in it; at times some of them share many bits, and some stand far apart.
+/// A page of the capacity with records that belong in it; at times some of them share many bits, some have one key, and some stand far apart.
 fn random_page(random: &mut Random, capacity: usize, count: usize) -> Page {
     let depth = random.below(DEPTH as usize) as u32;
     let pattern = random.below(1 << depth) as u32;
     let deeper = random.below((DEPTH - depth) as usize + 1) as u32;
     let hot = random.word() & ((1 << deeper) - 1);
-    let variety = random.one_of(&[1 << 12, 1 << 32]);
+    let variety = random.one_of(&[1 << 12, 1 << 24]);
+    let mut one_key = match random.below(5) {
+        0 => some_group_with(random, pattern, depth),
+        _ => Vec::new(),
+    };
     let mut page = Page {
         depth,
         pattern,
         records: Vec::new(),
     };
     while page.records.len() < count.min(capacity) {
-        let rest = hot | (random.below(variety) as u32) << deeper;
-        let call = call_with(pattern, depth, rest);
+        let rest = random.below(variety) as u32;
+        let own = || call_with(pattern << deeper | hot, depth + deeper, rest);
+        let call = one_key.pop().unwrap_or_else(own);
         if page.find(call).is_none() {
             let charge = random.word();
             page = page.add(Record { call, charge });
@@ -195,7 +201,11 @@ fn splits_of_full_pages() {
         let random = &mut Random::new(seed, "library splits");
         let capacity = random.between(1, 8);
         let page = random_page(random, capacity, capacity);
-        let call = random.one_of(&page.records).call ^ 1 << random.between(page.depth as usize, 31);
+        let near = random.one_of(&page.records).call;
+        let call = match (random.below(8), &others(near)[..]) {
+            (0, of_its_key @ [_, ..]) => random.one_of(of_its_key),
+            _ => neighbour(near, random.between(page.depth as usize, 12) as u32),
+        };
         if page.find(call).is_some() {
             return;
         }

@@ -1,5 +1,9 @@
-//! The ten marked items of the document ("Jobs worked through"), made here
-//! from its words and not from stored jobs.
+//! The ten marked items of the document ("Jobs worked through"), and the row that
+//! joins them ("(C) with calls 5 and 6 in the page"), made here from its words and
+//! not from stored jobs.
+//!
+//! The first bits of the pseudo keys, by which all of it can be followed by hand:
+//! call 1 has 11, 2 has 11, 3 has 10, 4 has 00, 5 has 10, 6 has 10, 9 has 01.
 
 use chargefile_tests::answer::Code;
 use chargefile_tests::file::ChargeFile;
@@ -21,8 +25,8 @@ at 6 op 1
 at 12 op 2
 at 15 op 3
 at 18 op 0
-page 1 depth 1 pattern 0 : 2=50 4=90
-page 2 depth 1 pattern 1 :
+page 1 depth 1 pattern 0 : 4=90
+page 2 depth 1 pattern 1 : 2=50
 ";
 
 fn operation(kind: Kind, call: u32, charge: u32) -> Operation {
@@ -54,8 +58,13 @@ fn job_e() -> Job {
 /// The file of (C) to (F), with so many pages, and one insert that runs to
 /// its end.
 fn insert_into_full(page_count: usize, call: u32) -> Job {
+    insert_beside([1, 5], page_count, call)
+}
+
+/// The same with other calls in the page.
+fn insert_beside([one, other]: [u32; 2], page_count: usize, call: u32) -> Job {
     Job {
-        file: one_page(2, page_count, &[(1, 10), (5, 20)]),
+        file: one_page(2, page_count, &[(one, 10), (other, 20)]),
         operations: vec![operation(Kind::Insert, call, 30)],
         turns: vec![0; 20],
     }
@@ -73,6 +82,13 @@ fn only_answer(job: &Job) -> (Code, u32) {
     let answers = done(job).answers;
     assert_eq!(answers.len(), 1);
     (answers[0].code, answers[0].charge)
+}
+
+/// The turns that the one operation used, and its moment.
+fn turns_and_moment(job: &Job) -> (usize, usize) {
+    let contents = done(job);
+    assert_eq!((contents.answers.len(), contents.log.len()), (1, 1));
+    (contents.answers[0].turns, contents.log[0].moment)
 }
 
 /// The byte behind each answer's code, as it stands in the result.
@@ -93,9 +109,17 @@ fn page(depth: u32, pattern: u32, records: &[(u32, u32)]) -> Page {
 
 #[test]
 fn a_pseudo_keys() {
-    assert_eq!(pseudo_key(1), 0x8000_0000);
-    assert_eq!(pseudo_key(6), 0x6000_0000);
-    assert_eq!(pseudo_key(0), 0);
+    assert_eq!(pseudo_key(1), 0xfb69_b604);
+    assert_eq!(pseudo_key(6), 0xab3d_76f3);
+    assert_eq!(pseudo_key(0), 0x4b95_f515);
+}
+
+/// What is said of the first bits in front.
+#[test]
+fn first_bits() {
+    let calls = [1, 2, 3, 4, 5, 6, 9];
+    let bits = calls.map(|call| pseudo_key(call) >> 30);
+    assert_eq!(bits, [0b11, 0b11, 0b10, 0b00, 0b10, 0b10, 0b01]);
 }
 
 #[test]
@@ -115,10 +139,13 @@ fn c_insert_3_needs_two_pages() {
     let after = Job::from_bytes(&contents.charge_file.unwrap()).file;
     assert_eq!(after.in_use, 3);
     assert_eq!(*after.page(1), page(1, 0, &[]));
-    assert_eq!(*after.page(2), page(2, 2, &[(1, 10), (5, 20)]));
-    assert_eq!(*after.page(3), page(2, 3, &[(3, 30)]));
+    assert_eq!(*after.page(2), page(2, 2, &[(3, 30), (5, 20)]));
+    assert_eq!(*after.page(3), page(2, 3, &[(1, 10)]));
     assert_eq!(after.directory, [1, 1, 2, 3]);
-    assert_eq!(page_bytes(&job), [2]);
+    assert_eq!(page_bytes(&job), [1]);
+    // (a) to (d), two new pages, entry 2, which is the call's own, on turn 6,
+    // entry 3, the new pages unlocked, the old one written and unlocked
+    assert_eq!(turns_and_moment(&job), (11, 6));
 }
 
 #[test]
@@ -128,18 +155,43 @@ fn d_with_two_pages_no_page() {
     let after = done(&job).charge_file.unwrap();
     assert_eq!(after, Job::charge_file(&job.file));
     assert_eq!(page_bytes(&job), [0]);
+    assert_eq!(turns_and_moment(&job), (5, 3));
 }
 
+/// Call 9 parts from 1 and 5 at the first bit, and stays in the old page.
 #[test]
-fn e2_insert_9_no_depth() {
+fn e2_insert_9_is_stored() {
     let job = insert_into_full(2, 9);
-    assert_eq!(only_answer(&job), (Code::NoDepth, 0));
+    assert_eq!(new_pages_needed(job.file.page(1), 9, 2), Some(1));
+    assert_eq!(only_answer(&job), (Code::Stored, 30));
+    let after = Job::from_bytes(&done(&job).charge_file.unwrap()).file;
+    assert_eq!(after.in_use, 2);
+    assert_eq!(*after.page(1), page(1, 0, &[(9, 30)]));
+    assert_eq!(*after.page(2), page(1, 1, &[(1, 10), (5, 20)]));
+    assert_eq!(after.directory, [1, 1, 2, 2]);
     assert_eq!(page_bytes(&job), [0]);
-    assert_eq!(
-        only_answer(&insert_into_full(256, 9)),
-        (Code::NoDepth, 0),
-        "pages do not help"
-    );
+    // (a) to (d), a new page, entries 2 and 3, the new page unlocked, the old
+    // one written on turn 8 and unlocked
+    assert_eq!(turns_and_moment(&job), (10, 8));
+}
+
+/// The row that joins them: calls 3, 5 and 6 share their first two bits.
+#[test]
+fn c_with_calls_5_and_6_no_depth() {
+    let job = insert_beside([5, 6], 3, 3);
+    assert_eq!(new_pages_needed(job.file.page(1), 3, 2), None);
+    assert_eq!(only_answer(&job), (Code::NoDepth, 0));
+    assert_eq!(turns_and_moment(&job), (5, 3));
+    let after = done(&job).charge_file.unwrap();
+    assert_eq!(after, Job::charge_file(&job.file));
+    assert_eq!(page_bytes(&job), [0]);
+    for page_count in [1, 2, 256] {
+        assert_eq!(
+            only_answer(&insert_beside([5, 6], page_count, 3)),
+            (Code::NoDepth, 0),
+            "pages do not help, and none are asked for"
+        );
+    }
 }
 
 #[test]
@@ -171,6 +223,20 @@ fn h_no_turns_gives_the_file_that_came_in() {
     assert_eq!(contents.under_way, 0);
     assert_eq!(contents.charge_file, Some(Job::charge_file(&job.file)));
     assert_eq!(page_bytes(&job), [0; 4]);
+}
+
+/// "Job version is 2; version 1 gives refusal 2."
+#[test]
+fn version_1_is_refused_two() {
+    let job = job_e().to_bytes();
+    assert_eq!(job[..2], [2, 0]);
+    for version in (0..=u16::MAX).filter(|version| *version != 2) {
+        let mut other = job.clone();
+        other[..2].copy_from_slice(&version.to_le_bytes());
+        assert_eq!(check(&other), Some((2, 0)));
+    }
+    let version_1 = [&[1, 0], &job[2..]].concat();
+    assert_eq!(report(&version_1), b"refused 2 0\n");
 }
 
 #[test]
@@ -229,11 +295,10 @@ fn job_e_result_bytes() {
     wanted.extend([5, 1, 6, 0, 70, 0, 0, 0]);
     wanted.extend([2, 1, 3, 0, 0, 0, 0, 0]);
     wanted.extend([6, 0, 1, 0, 12, 0, 2, 0, 15, 0, 3, 0, 18, 0, 0, 0]);
-    wanted.extend([1, 0, 1, 2, 2, 0, 2, 0, 0, 0, 0, 0, 32, 0, 0, 0]);
+    wanted.extend([2, 0, 1, 2, 2, 0, 2, 0, 0, 0, 0, 0, 32, 0, 0, 0]);
     wanted.extend([36, 0, 0, 0, 76, 0, 0, 0, 76, 0, 0, 0, 76, 0, 0, 0]);
     wanted.extend([1, 0, 2, 0]);
-    wanted.extend([1, 2, 0, 0, 2, 0, 0, 0, 50, 0, 0, 0, 4, 0, 0, 0, 90, 0, 0, 0]);
-    wanted.extend([1, 0, 1, 0]);
-    wanted.extend([0; 16]);
+    wanted.extend([1, 1, 0, 0, 4, 0, 0, 0, 90, 0, 0, 0, 0, 0, 0, 0, 0, 0, 0, 0]);
+    wanted.extend([1, 1, 1, 0, 2, 0, 0, 0, 50, 0, 0, 0, 0, 0, 0, 0, 0, 0, 0, 0]);
     assert_eq!(result, wanted);
 }

@@ -2,6 +2,7 @@
 //! page").
 
 use chargefile_tests::key::{begins, call_with, index, pseudo_key, shared_bits};
+use chargefile_tests::one_key::some_group_with;
 use chargefile_tests::page::{page_length, Page, Record};
 use chargefile_tests::random::Random;
 use chargefile_tests::seeds::each_seed;
@@ -14,13 +15,14 @@ fn keys_agree_with_the_machine() {
     each_seed(PAGES, |seed| {
         let random = &mut Random::new(seed, "keys");
         let (one, other) = (random.word(), random.word() << random.below(32));
-        assert_eq!(pseudo_key(one), one.reverse_bits());
-        assert_eq!(pseudo_key(pseudo_key(one)), one);
+        let key = machine_key(one);
+        assert_eq!(pseudo_key(one), key);
+        assert_eq!(shared_bits(pseudo_key(one), key), 32);
         let near = one ^ other;
         assert_eq!(shared_bits(one, near), other.leading_zeros());
         assert_eq!(shared_bits(one, one), 32);
         for depth in 1..=8 {
-            let first = (one.reverse_bits() >> (32 - depth)) as usize;
+            let first = (key >> (32 - depth)) as usize;
             assert_eq!(index(one, depth), first);
             assert!(begins(first as u32, depth, first, depth));
             let made = call_with(first as u32, depth, other);
@@ -30,7 +32,14 @@ fn keys_agree_with_the_machine() {
     });
 }
 
-/// A page with random records that belong in it.
+/// The pseudo key as the machine multiplies: modulo 2^32 by itself.
+fn machine_key(call: u32) -> u32 {
+    let mix = |key: u32, byte: u8| (key ^ u32::from(byte)).wrapping_mul(16_777_619);
+    call.to_le_bytes().into_iter().fold(2_166_136_261, mix)
+}
+
+/// A page with random records that belong in it; at times some of them have one
+/// key, and the others share some bits beyond the pattern.
 fn random_page(random: &mut Random, global: u32, count: usize) -> Page {
     let depth = random.below(global as usize + 1) as u32;
     let pattern = random.below(1 << depth) as u32;
@@ -39,12 +48,17 @@ fn random_page(random: &mut Random, global: u32, count: usize) -> Page {
         pattern,
         records: Vec::new(),
     };
-    let variety = random.one_of(&[16, 1 << 10, 1 << 32]);
+    let variety = random.one_of(&[16, 1 << 10, 1 << 24]);
     let deeper = random.below(global as usize - depth as usize + 1) as u32;
     let hot = random.word() & ((1 << deeper) - 1);
+    let mut one_key = match random.below(5) {
+        0 => some_group_with(random, pattern, depth),
+        _ => Vec::new(),
+    };
     while page.records.len() < count {
-        let rest = hot | (random.below(variety) as u32) << deeper;
-        let call = call_with(pattern, depth, rest);
+        let rest = random.below(variety) as u32;
+        let own = || call_with(pattern << deeper | hot, depth + deeper, rest);
+        let call = one_key.pop().unwrap_or_else(own);
         if page.find(call).is_none() {
             let charge = random.word();
             page = page.add(Record { call, charge });

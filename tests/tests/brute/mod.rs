@@ -1,7 +1,7 @@
 //! The refusal table once more, by brute force: every fault of a job is
 //! collected, and the one that none goes before is the refusal. Patterns are
-//! compared as texts of 0 and 1, so that no shift or mask is shared with the
-//! other checker.
+//! compared as texts of 0 and 1, and pseudo keys reckoned by sums, so that no
+//! shift, mask or product is shared with the other checker.
 
 /// A refusal: number and place.
 pub type Refusal = (u32, u32);
@@ -73,7 +73,7 @@ fn number(job: &[u8], place: usize, width: usize) -> usize {
 
 fn header_faults(job: &[u8]) -> Vec<Refusal> {
     let mut faults = Vec::new();
-    if job[..2] != [1, 0] {
+    if job[..2] != [2, 0] {
         faults.push((2, 0));
     }
     let page_count = number(job, 4, 2);
@@ -230,10 +230,35 @@ fn record_faults(job: &[u8], sections: &Sections) -> Vec<Refusal> {
 /// The three sentences of row 8 about a call, each asked by itself, with the
 /// calls that are earlier in its page.
 fn record_is_wrong(call: usize, earlier: &[usize], pattern: &str) -> bool {
-    let key: String = bits(call, 32).chars().rev().collect();
-    let not_begun = !key.starts_with(pattern);
+    let not_begun = !bits(pseudo_key(call), 32).starts_with(pattern);
     let not_above = earlier.last().is_some_and(|before| call <= *before);
     not_begun || not_above || earlier.contains(&call)
+}
+
+/// FNV-1a by sums alone. The factor 16777619 is 1 0000 0000 0000 0001 1001 0011 as
+/// bits, so the product is what the key comes to when it is doubled 24, 8, 7, 4, 1
+/// and no times; what goes beyond 2^32 falls away.
+fn pseudo_key(call: usize) -> usize {
+    let doubled = |key: usize, times: u32| key * 2usize.pow(times);
+    [1, 256, 65_536, 16_777_216]
+        .into_iter()
+        .fold(2_166_136_261, |key, worth| {
+            let mixed = exclusive_or(key, call / worth % 256);
+            let product: usize = [24, 8, 7, 4, 1, 0].map(|times| doubled(mixed, times)).iter().sum();
+            product % 4_294_967_296
+        })
+}
+
+/// With each bit of the byte that is 1, a number loses its own such bit if it has
+/// it, and gains it if not.
+fn exclusive_or(number: usize, byte: usize) -> usize {
+    (0..8).map(|position| 2usize.pow(position)).fold(number, |sum, worth| {
+        match (sum / worth % 2, byte / worth % 2) {
+            (1, 1) => sum - worth,
+            (0, 1) => sum + worth,
+            _ => sum,
+        }
+    })
 }
 
 fn operation_faults(job: &[u8], sections: &Sections) -> Vec<Refusal> {

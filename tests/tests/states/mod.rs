@@ -3,6 +3,7 @@
 #![allow(dead_code)]
 
 use chargefile_tests::job::Job;
+use chargefile_tests::one_key;
 use chargefile_tests::page::{Page, Record};
 use chargefile_tests::run::Run;
 
@@ -42,14 +43,19 @@ pub fn every_page(job: &Job, mut see: impl FnMut(&Seen)) {
     }
 }
 
-/// Calls to look for in a page: each that it has with its two neighbours, the first and the last there are, and those of the job's operations.
+/// Calls to look for in a page: each that it has with its two neighbours and the others with its key, the first and the last there are, and those of the
+/// job's operations.
 pub fn calls_to_look_for(job: &Job, page: &Page) -> Vec<u32> {
     let near = page
         .calls()
         .into_iter()
         .flat_map(|call| [call, call.wrapping_sub(1), call.wrapping_add(1)]);
+    let of_one_key = page.calls().into_iter().flat_map(one_key::others);
     let asked = job.operations.iter().map(|operation| operation.call);
-    near.chain([0, u32::MAX]).chain(asked).collect()
+    near.chain(of_one_key)
+        .chain([0, u32::MAX])
+        .chain(asked)
+        .collect()
 }
 
 /// Looking at all records of a page, which has no call twice.
