@@ -131,8 +131,8 @@ pub(crate) fn renumber(random: &mut Random, file: &mut ChargeFile) {
 /// The call numbers that records and operations are drawn from.
 pub fn pool(random: &mut Random, depth: u32) -> Vec<u32> {
     let any = random.word();
-    let one_key = match random.below(3) {
-        0 => one_key::some_group(random),
+    let one_key = match random.below(5) {
+        0 | 1 => one_key::some_group(random),
         _ => vec![random.one_of(&[0, 1, u32::MAX, 0x5555_5555, any, any])],
     };
     let hot = one_key[0];
@@ -147,7 +147,7 @@ pub fn pool(random: &mut Random, depth: u32) -> Vec<u32> {
     let call = |i: usize| match random.below(12) {
         0 => random.word(),
         1 => random.one_of(&[0, u32::MAX, 1, 1 << 31]),
-        2..=4 if one_key.len() > 1 => random.one_of(&one_key),
+        2..=5 if one_key.len() > 1 => random.one_of(&one_key),
         _ => match in_a_row {
             Some(step) => hot.wrapping_add(step * i as u32),
             None => {
@@ -235,19 +235,7 @@ pub(crate) fn operations(random: &mut Random, file: &ChargeFile, calls: &[u32]) 
             share if share < searches + inserts => Kind::Insert,
             _ => Kind::Delete,
         };
-        let call = match random.below(10) {
-            0 => random.word(),
-            1 if !held.is_empty() => random.one_of(&held),
-            2 if !held.is_empty() => {
-                let held = random.one_of(&held);
-                of_its_key(random, held).unwrap_or(held)
-            }
-            3..=5 => {
-                let near = random.one_of(calls);
-                neighbour(random, near, file.depth)
-            }
-            _ => random.one_of(calls),
-        };
+        let call = asked_for(random, file.depth, &held, calls);
         let charge = match kind {
             Kind::Insert => charge(random),
             // What the deletes ask for is said when all operations are there.
@@ -258,6 +246,24 @@ pub(crate) fn operations(random: &mut Random, file: &ChargeFile, calls: &[u32]) 
     let mut operations: Vec<Operation> = (0..count).map(operation).collect();
     make_asked::ask(random, file, &mut operations);
     operations
+}
+
+/// The call that an operation goes for: of those that the file holds, of the
+/// pool, or near one of these.
+fn asked_for(random: &mut Random, depth: u32, held: &[u32], calls: &[u32]) -> u32 {
+    match random.below(10) {
+        0 => random.word(),
+        1 if !held.is_empty() => random.one_of(held),
+        2 if !held.is_empty() => {
+            let held = random.one_of(held);
+            of_its_key(random, held).unwrap_or(held)
+        }
+        3..=5 => {
+            let near = random.one_of(calls);
+            neighbour(random, near, depth)
+        }
+        _ => random.one_of(calls),
+    }
 }
 
 /// Another call with the key of this one, if some are known.

@@ -177,7 +177,15 @@ fn a_pattern_that_is_passed_over() {
 /// Different numbers of three bytes give different calls.
 #[test]
 fn different_numbers_give_different_calls() {
-    for (local, pattern) in [(0, 0), (1, 1), (4, 9), (7, 100), (8, 97), (8, 172), (8, 255)] {
+    for (local, pattern) in [
+        (0, 0),
+        (1, 1),
+        (4, 9),
+        (7, 100),
+        (8, 97),
+        (8, 172),
+        (8, 255),
+    ] {
         let near = (0..5_000).map(|rest| call_with(pattern, local, rest));
         let far = (1..256).map(|high| call_with(pattern, local, high << 16));
         let calls: BTreeSet<u32> = near.chain(far).collect();

@@ -244,7 +244,10 @@ fn pseudo_key(call: usize) -> usize {
         .into_iter()
         .fold(2_166_136_261, |key, worth| {
             let mixed = exclusive_or(key, call / worth % 256);
-            let product: usize = [24, 8, 7, 4, 1, 0].map(|times| doubled(mixed, times)).iter().sum();
+            let product: usize = [24, 8, 7, 4, 1, 0]
+                .map(|times| doubled(mixed, times))
+                .iter()
+                .sum();
             product % 4_294_967_296
         })
 }
@@ -252,13 +255,15 @@ fn pseudo_key(call: usize) -> usize {
 /// With each bit of the byte that is 1, a number loses its own such bit if it has
 /// it, and gains it if not.
 fn exclusive_or(number: usize, byte: usize) -> usize {
-    (0..8).map(|position| 2usize.pow(position)).fold(number, |sum, worth| {
-        match (sum / worth % 2, byte / worth % 2) {
-            (1, 1) => sum - worth,
-            (0, 1) => sum + worth,
-            _ => sum,
-        }
-    })
+    (0..8)
+        .map(|position| 2usize.pow(position))
+        .fold(number, |sum, worth| {
+            match (sum / worth % 2, byte / worth % 2) {
+                (1, 1) => sum - worth,
+                (0, 1) => sum + worth,
+                _ => sum,
+            }
+        })
 }
 
 fn operation_faults(job: &[u8], sections: &Sections) -> Vec<Refusal> {
