@@ -1,10 +1,10 @@
 //! Pseudo keys, directory indexes and shared leading bits ("The file"; "Call
 //! numbers by line card").
 //!
-//! The pseudo key is reckoned in whole numbers with a remainder, and all that is
-//! asked of it goes bit by bit. The library multiplies 32 bits by 32, counts the
-//! leading zeros of an exclusive-or and shifts; doing it the slow way keeps the
-//! two apart.
+//! The pseudo key is reckoned in whole numbers with a remainder, and what is asked
+//! of it goes bit by bit. The library has a helper that multiplies modulo 2^32,
+//! counts the leading zeros of an exclusive-or and shifts; doing it the slow way
+//! keeps the two apart.
 
 /// How many bits a pseudo key has.
 pub const KEY_BITS: u32 = 32;
@@ -62,12 +62,13 @@ pub fn begins(pattern: u32, local: u32, j: usize, global: u32) -> bool {
 /// Its three low bytes are those of `rest`, if with one of the 256 highest bytes
 /// they will do; else those of a number above.
 ///
-/// They always do up to 7 bits, and nearly always with 8. The highest byte goes
-/// in last, and the factor is 2^24 + 403: while that byte takes on its 256 values,
-/// so does the first byte of the key, but for one at most, which a carry passes
-/// over. So numbers that differ in three bytes give different calls. Where a
-/// pattern of 8 bits is passed over, the number above is one for which two highest
-/// bytes will do, and the second is taken: the first is the call of that number.
+/// They always do up to 7 bits, and with 8 but for one number in forty thousand.
+/// The highest byte goes in last, and the factor is 2^24 + 403: while that byte
+/// takes on its 256 values, so does the first byte of the key, but for one at most,
+/// which a carry passes over. So numbers that differ in three bytes give different
+/// calls. Where a pattern of 8 bits is passed over, the number above is one for
+/// which two highest bytes will do, and the second is taken, since the first makes
+/// the call of that number; only two that are passed over can come to one call.
 pub fn call_with(pattern: u32, local: u32, rest: u32) -> u32 {
     let fits = |call: &u32| pseudo_key(*call) as u64 >> (KEY_BITS - local) == u64::from(pattern);
     let calls = |low: u32| {

@@ -141,7 +141,8 @@ pub fn pool(random: &mut Random, depth: u32) -> Vec<u32> {
         1 => random.between(6, 24),
         _ => random.between(24, 120),
     };
-    // Numbers one by one, or "the line card in the low eight bits".
+    // Numbers in a row: all of them, or those of one line card, which stands "in
+    // the low eight bits".
     let in_a_row = random.percent(25).then(|| random.one_of(&[1, 256]));
     let variety = random.one_of(&[4, 16, 256, 1 << 12]);
     let call = |i: usize| match random.below(12) {

@@ -91,9 +91,9 @@ fn random_page(random: &mut Random, capacity: usize, count: usize) -> Page {
     page
 }
 
-/// A call that the page does not have: any, or a neighbour of one that it has, so that it can belong at every place.
+/// A call that the page does not have: any, one at the ends of all there are, or a neighbour of one that it has, so that it can belong at every place.
 fn missing(random: &mut Random, page: &Page) -> u32 {
-    let mut calls = vec![random.word()];
+    let mut calls = vec![random.word(), u32::MAX];
     calls.extend(page.calls());
     loop {
         let step = random.one_of(&[0, 1, u32::MAX]);
