@@ -65,7 +65,8 @@ pub fn of_its_key(job: &Job, number: usize, k: usize, other: u32) -> Option<Faul
 }
 
 /// One byte of a call, counted from its first, with another value. Whichever it
-/// is, the key's first bits change with it.
+/// is, the first bits of the key mostly change with it; in the last it is the
+/// call's highest bits that change too, and so the order.
 pub fn byte_of_call(job: &Job, number: usize, k: usize, at: usize, value: u8) -> Option<Fault> {
     let mut bytes = job.file.page(number).records[k].call.to_le_bytes();
     bytes[at] = value;

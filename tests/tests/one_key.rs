@@ -15,7 +15,7 @@ use chargefile_tests::{check, tidy, Outcome};
 /// Two calls with one key, the lower first.
 const PAIR: [u32; 2] = [141_231_736, 474_790_318];
 
-/// The first byte of the second record of a page of depth 1's directory, where that page is the first.
+/// The first byte of the second record of page 1 in a file of depth 1: behind the header, two entries, the page's first four bytes and a record.
 const SECOND_RECORD: u32 = 32 + 2 * 2 + 4 + 8;
 
 /// Records of these calls by rising number, each with a charge of its own.
