@@ -18,6 +18,21 @@ pub const NO_DEPTH: u8 = 7;
 pub const NO_PAGE: u8 = 8;
 pub const DIFFERS: u8 = 9;
 
+/// The calls 0 to 31 by the first three bits of their pseudo key, read as a
+/// number: those bits settle which page a call goes to. The scenes take their
+/// calls from here, so that each goes where it is wanted and the calls of a page
+/// rise as they should.
+pub const CALLS_BY_FIRST_BITS: [[u32; 4]; 8] = [
+    [4, 11, 20, 27],
+    [13, 14, 29, 30],
+    [0, 7, 16, 23],
+    [9, 10, 25, 26],
+    [3, 12, 19, 28],
+    [5, 6, 21, 22],
+    [8, 15, 24, 31],
+    [1, 2, 17, 18],
+];
+
 pub fn search(call: u32) -> Operation {
     let (kind, charge) = (Kind::Search, 0);
     Operation { kind, call, charge }
