@@ -21,10 +21,10 @@ fn table(head: &str) -> Vec<Vec<String>> {
     rows.map(cells).collect()
 }
 
-/// The file of both tables, with some operations.
+/// The file of both tables, with some operations. The pseudo keys of calls 3 and 5 begin with 10, and that of call 8, which is inserted, with 11.
 fn start(operations: &[(Kind, u32, u32)]) -> Run {
     let mut file = ChargeFile::empty(2, 2, 3);
-    for (call, charge) in [(1, 10), (5, 20)] {
+    for (call, charge) in [(3, 10), (5, 20)] {
         file.page_mut(1).records.push(Record { call, charge });
     }
     let operation = |&(kind, call, charge)| Operation { kind, call, charge };
@@ -90,7 +90,7 @@ fn follow(run: &mut Run, operation: usize, cells: &[String]) {
 
 #[test]
 fn a_split() {
-    let mut run = start(&[(Kind::Insert, 3, 30)]);
+    let mut run = start(&[(Kind::Insert, 8, 30)]);
     let table = table("| Turn | Step |");
     for (turn, line) in table.iter().enumerate() {
         assert_eq!(line[0], turn.to_string());
@@ -103,7 +103,7 @@ fn a_split() {
 #[test]
 fn three_operations() {
     let operations = [
-        (Kind::Insert, 3, 30),
+        (Kind::Insert, 8, 30),
         (Kind::Delete, 5, 0),
         (Kind::Search, 5, 0),
     ];
