@@ -1,9 +1,10 @@
 //! The page with the answer, on small jobs reckoned by hand: code and page byte
 //! are read from the result's own bytes. What is in the file is charged 100, and
-//! what is inserted 7.
+//! what is inserted 7. The calls are those of `CALLS_BY_FIRST_BITS`.
 
 use chargefile_tests::by_hand::*;
 use chargefile_tests::file::{ChargeFile, Looked};
+use chargefile_tests::key::index;
 use chargefile_tests::page::Record;
 use chargefile_tests::result;
 use chargefile_tests::run::result_bytes;
@@ -11,21 +12,22 @@ use chargefile_tests::run::result_bytes;
 /// A code with its page byte, of an operation that has no moment yet.
 const NO_MOMENT: (u8, u8) = (NOT_YET, 0);
 
-/// One page with calls 2 and 3, which have indexes 0 and 1 at depth 1.
+/// One page with calls 4 and 5, which have indexes 0 and 1 at depth 1; so have 7
+/// and 9 index 0, and 8 and 12 index 1.
 fn full_page() -> ChargeFile {
-    one_page(&[(2, 100), (3, 100)])
+    one_page(&[(4, 100), (5, 100)])
 }
 
 /// The same calls in two pages, by their index.
 fn two_pages() -> ChargeFile {
-    file(1, 2, &[(1, 0, &[(2, 100)]), (1, 1, &[(3, 100)])])
+    file(1, 2, &[(1, 0, &[(4, 100)]), (1, 1, &[(5, 100)])])
 }
 
 #[test]
 fn looking_into_a_page_tells_which_it_was() {
     let file = two_pages();
     let record = Record {
-        call: 3,
+        call: 5,
         charge: 100,
     };
     let there = Looked {
@@ -33,27 +35,27 @@ fn looking_into_a_page_tells_which_it_was() {
         record: Some(record),
     };
     let missing = |page| Looked { page, record: None };
-    assert_eq!(file.look(2, 3), there);
-    assert_eq!((file.look(1, 3), file.look(2, 2)), (missing(1), missing(2)));
+    assert_eq!(file.look(2, 5), there);
+    assert_eq!((file.look(1, 5), file.look(2, 4)), (missing(1), missing(2)));
 }
 
 #[test]
 fn the_byte_is_the_number_less_one_and_not_the_index() {
-    let operations = [search(2), search(3), search(6), search(7)];
+    let operations = [search(4), search(5), search(9), search(12)];
     let rising = one_by_one(&two_pages(), &operations);
     let wanted = [(FOUND, 0), (FOUND, 1), (NONE, 0), (NONE, 1)];
     assert_eq!(rising.codes_and_pages(), wanted);
-    let falling = file(1, 2, &[(1, 1, &[(3, 100)]), (1, 0, &[(2, 100)])]);
+    let falling = file(1, 2, &[(1, 1, &[(5, 100)]), (1, 0, &[(4, 100)])]);
     let wanted = [(FOUND, 1), (FOUND, 0), (NONE, 1), (NONE, 0)];
     let falling = one_by_one(&falling, &operations);
     assert_eq!(falling.codes_and_pages(), wanted);
 }
 
-/// Both searches read their entry, insert 4 splits page 1 into 2, 4 and 3, and
-/// both read page 1, the entry again, and page 2.
+/// Both searches read their entry, insert 7 splits page 1 into calls 4, 7 and 5,
+/// and both read page 1, the entry again, and page 2.
 #[test]
 fn a_search_tells_the_page_last_read() {
-    let operations = [insert(4, 7), search(3), search(7)];
+    let operations = [insert(7, 7), search(5), search(12)];
     let mut turns = vec![(1, 1), (2, 1), (0, 9), (1, 3), (2, 3)];
     let now = told(&full_page(), &operations, &turns);
     let wanted = [(STORED, 0), (FOUND, 1), NO_MOMENT];
@@ -63,11 +65,11 @@ fn a_search_tells_the_page_last_read() {
     assert_eq!(now.codes_and_pages(), [(STORED, 0), (FOUND, 1), (NONE, 1)]);
 }
 
-/// The insert has written page 2 and entry 1 but not the old page, and call 3
+/// The insert has written page 2 and entry 1 but not the old page, and call 5
 /// is deleted from page 2: a search that finds it in page 1 has read page 1.
 #[test]
 fn a_late_reader_tells_the_page_it_read() {
-    let operations = [insert(4, 7), search(3), delete(3)];
+    let operations = [insert(7, 7), search(5), delete(5)];
     let turns = [(1, 1), (0, 7), (2, 6), (1, 1)];
     let now = told(&full_page(), &operations, &turns);
     assert_eq!(now.codes_and_pages(), [NO_MOMENT, (FOUND, 0), (DELETED, 1)]);
@@ -75,17 +77,17 @@ fn a_late_reader_tells_the_page_it_read() {
 
 #[test]
 fn stored_without_a_split() {
-    let now = one_by_one(&two_pages(), &[insert(4, 7), insert(5, 7)]);
+    let now = one_by_one(&two_pages(), &[insert(7, 7), insert(8, 7)]);
     assert_eq!(now.codes_and_pages(), [(STORED, 0), (STORED, 1)]);
 }
 
-/// Page 2 has calls 1 and 3, indexes 2 and 3 at depth 2, and 3 goes to page 3.
-/// Call 5 stays with 1 and is stored as the old page is written, the eighth
-/// turn; call 7 goes with 3 and is stored as entry 3 is, the sixth.
+/// Page 2 has calls 5 and 8, indexes 2 and 3 at depth 2, and 8 goes to page 3.
+/// Call 12 stays with 5 and is stored as the old page is written, the eighth
+/// turn; call 15 goes with 8 and is stored as entry 3 is, the sixth.
 #[test]
 fn stored_in_the_old_page_or_in_the_new_one() {
-    let file = file(2, 3, &[(1, 0, &[(2, 100)]), (1, 1, &[(1, 100), (3, 100)])]);
-    for (call, used, byte) in [(5, 8, 1), (7, 6, 2)] {
+    let file = file(2, 3, &[(1, 0, &[(4, 100)]), (1, 1, &[(5, 100), (8, 100)])]);
+    for (call, used, byte) in [(12, 8, 1), (15, 6, 2)] {
         let after = |turns| told(&file, &[insert(call, 7)], &[(0, turns)]).codes_and_pages();
         for turns in 0..used {
             assert_eq!(after(turns), [NO_MOMENT], "call {call}, turn {turns}");
@@ -101,10 +103,10 @@ fn stored_in_the_old_page_or_in_the_new_one() {
 #[test]
 fn stored_in_the_first_of_several_new_pages_or_another_or_the_old_one() {
     for (calls, call, used, byte) in [
-        ([5, 13], 1, 8, 1),
-        ([7, 15], 3, 10, 2),
-        ([3, 11], 7, 11, 3),
-        ([4, 12], 0, 16, 0),
+        ([5, 6], 3, 8, 1),
+        ([17, 18], 8, 10, 2),
+        ([8, 24], 17, 11, 3),
+        ([13, 14], 4, 16, 0),
     ] {
         let file = file(3, 4, &[(0, 0, &calls.map(|call| (call, 100)))]);
         let after = |turns| told(&file, &[insert(call, 7)], &[(0, turns)]).codes_and_pages();
@@ -116,15 +118,15 @@ fn stored_in_the_first_of_several_new_pages_or_another_or_the_old_one() {
 
 #[test]
 fn the_rest_tell_the_page_read_in_turn_d() {
-    let pages: [ByHand; 2] = [(1, 0, &[(2, 100)]), (1, 1, &[(3, 100), (5, 100)])];
+    let pages: [ByHand; 2] = [(1, 0, &[(4, 100)]), (1, 1, &[(5, 100), (8, 100)])];
     let operations = [
-        insert(3, 7),
-        delete(7),
-        insert(7, 7),
-        delete(3),
-        insert(2, 7),
-        delete(2),
-        delete(2),
+        insert(5, 7),
+        delete(12),
+        insert(12, 7),
+        delete(5),
+        insert(4, 7),
+        delete(4),
+        delete(4),
     ];
     let wanted = [
         (ALREADY_THERE, 1),
@@ -137,32 +139,32 @@ fn the_rest_tell_the_page_read_in_turn_d() {
     ];
     let now = one_by_one(&file(1, 2, &pages), &operations);
     assert_eq!(now.codes_and_pages(), wanted);
-    let now = one_by_one(&file(2, 2, &pages), &[insert(7, 7)]);
+    let now = one_by_one(&file(2, 2, &pages), &[insert(12, 7)]);
     assert_eq!(now.codes_and_pages(), [(NO_PAGE, 1)]);
 }
 
-/// Each has read that its entry names page 1 before insert 5 splits that page
-/// and takes call 3 to page 2 with it; so each locks page 1, lets it go, and
+/// Each has read that its entry names page 1 before insert 8 splits that page
+/// and takes call 5 to page 2 with it; so each locks page 1, lets it go, and
 /// reads page 2 in turn (d).
 #[test]
 fn the_rest_tell_the_page_of_turn_d_after_a_retry() {
-    let others = [insert(3, 7), delete(7), insert(7, 7), delete(3)];
+    let others = [insert(5, 7), delete(12), insert(12, 7), delete(5)];
     let codes = [ALREADY_THERE, ABSENT, NO_DEPTH, DELETED];
     for (other, code) in others.into_iter().zip(codes) {
         let turns = [(1, 1), (0, 9), (1, 10)];
-        let now = told(&full_page(), &[insert(5, 7), other], &turns);
+        let now = told(&full_page(), &[insert(8, 7), other], &turns);
         assert_eq!(now.codes_and_pages(), [(STORED, 1), (code, 1)], "{other:?}");
     }
-    let deeper = file(2, 2, &[(0, 0, &[(2, 100), (3, 100)])]);
-    let operations = [insert(5, 7), insert(7, 7)];
+    let deeper = file(2, 2, &[(0, 0, &[(4, 100), (5, 100)])]);
+    let operations = [insert(8, 7), insert(12, 7)];
     let now = told(&deeper, &operations, &[(1, 1), (0, 10), (1, 10)]);
     assert_eq!(now.codes_and_pages(), [(STORED, 1), (NO_PAGE, 1)]);
 }
 
-/// As before, but insert 4 stays in page 1, and page 2 has room.
+/// As before, but insert 7 stays in page 1, and page 2 has room.
 #[test]
 fn stored_after_a_retry() {
-    let operations = [insert(4, 7), insert(5, 7)];
+    let operations = [insert(7, 7), insert(8, 7)];
     let now = told(&full_page(), &operations, &[(1, 1), (0, 9), (1, 10)]);
     assert_eq!(now.codes_and_pages(), [(STORED, 0), (STORED, 1)]);
 }
@@ -172,16 +174,16 @@ fn stored_after_a_retry() {
 #[test]
 fn the_unfinished_tell_a_page_once_their_moment_is_known() {
     for (operation, turns, wanted) in [
-        (insert(5, 7), 5, (STORED, 1)),
-        (insert(5, 7), 4, NO_MOMENT),
-        (delete(3), 5, (DELETED, 1)),
-        (delete(3), 4, NO_MOMENT),
-        (insert(3, 7), 4, (ALREADY_THERE, 1)),
-        (insert(3, 7), 3, NO_MOMENT),
-        (delete(5), 4, (ABSENT, 1)),
-        (delete(5), 3, NO_MOMENT),
-        (search(7), 2, NO_MOMENT),
-        (search(3), 0, NO_MOMENT),
+        (insert(8, 7), 5, (STORED, 1)),
+        (insert(8, 7), 4, NO_MOMENT),
+        (delete(5), 5, (DELETED, 1)),
+        (delete(5), 4, NO_MOMENT),
+        (insert(5, 7), 4, (ALREADY_THERE, 1)),
+        (insert(5, 7), 3, NO_MOMENT),
+        (delete(8), 4, (ABSENT, 1)),
+        (delete(8), 3, NO_MOMENT),
+        (search(12), 2, NO_MOMENT),
+        (search(5), 0, NO_MOMENT),
     ] {
         let now = told(&two_pages(), &[operation], &[(0, turns)]);
         let name = format!("{operation:?}, turn {turns}");
@@ -190,23 +192,24 @@ fn the_unfinished_tell_a_page_once_their_moment_is_known() {
     }
 }
 
-/// A page for each entry. Call 255 has index 255 and so have those above it by
-/// 256; call 0 has index 0.
+/// A page for each entry, with the lowest call that belongs there: call 68 in the
+/// last, and call 33 in the first. Calls 293 and 495 have index 255 too.
 #[test]
 fn page_256_has_byte_255() {
-    let record = |j: u32| [(u32::from((j as u8).reverse_bits()), 100)];
+    let lowest = |j| (0..).find(|call| index(*call, 8) == j);
+    let record = |j| [(lowest(j).expect("a call for every index"), 100)];
     let records: Vec<[(u32, u32); 1]> = (0..256).map(record).collect();
     let page = |j: u32| (8, j, &records[j as usize][..]);
     let pages: Vec<ByHand> = (0..256).map(page).collect();
     let operations = [
-        search(255),
-        search(511),
-        delete(511),
-        insert(511, 7),
-        insert(255, 7),
-        insert(767, 7),
-        delete(255),
-        search(0),
+        search(68),
+        search(293),
+        delete(293),
+        insert(293, 7),
+        insert(68, 7),
+        insert(495, 7),
+        delete(68),
+        search(33),
     ];
     let codes = [
         FOUND,
@@ -222,11 +225,12 @@ fn page_256_has_byte_255() {
     let now = one_by_one(&file(8, 256, &pages), &operations);
     assert_eq!(now.codes_and_pages(), wanted);
 
-    // Page 255 stands for the last two entries, and call 127 has index 254.
+    // Page 255 stands for the last two entries; calls 17, 219 and 432 have index
+    // 254.
     let mut pages = pages[..254].to_vec();
-    pages.push((7, 127, &[(127, 100), (383, 100)]));
+    pages.push((7, 127, &[(17, 100), (219, 100)]));
     let split = file(8, 256, &pages);
-    let now = one_by_one(&split, &[insert(639, 7), insert(255, 7), search(127)]);
+    let now = one_by_one(&split, &[insert(432, 7), insert(68, 7), search(17)]);
     assert_eq!(
         now.codes_and_pages(),
         [(NO_DEPTH, 254), (STORED, 255), (FOUND, 254)]
@@ -237,7 +241,7 @@ fn page_256_has_byte_255() {
 /// a page with code 0.
 #[test]
 fn a_result_is_read_with_its_pages() {
-    let operations = [search(3), search(2)];
+    let operations = [search(5), search(4)];
     let mut result = result_bytes(&job(&full_page(), &operations, &[(0, 2)]).to_bytes());
     let pages = |result: &[u8]| {
         let answers = result::from_bytes(result).map(|contents| contents.answers)?;
