@@ -2,6 +2,7 @@
 
 use crate::file::ChargeFile;
 use crate::job::{Job, Kind, Operation};
+use crate::key::index;
 use crate::little_endian::{four_at, two_at};
 use crate::page::{Page, Record};
 use crate::run::result_bytes;
@@ -32,6 +33,12 @@ pub const CALLS_BY_FIRST_BITS: [[u32; 4]; 8] = [
     [8, 15, 24, 31],
     [1, 2, 17, 18],
 ];
+
+/// The calls whose pseudo key begins with a pattern of `local` bits, from the
+/// lowest on.
+pub fn lowest_calls(pattern: u32, local: u32) -> impl Iterator<Item = u32> {
+    (0..).filter(move |call| index(*call, local) == pattern as usize)
+}
 
 pub fn search(call: u32) -> Operation {
     let (kind, charge) = (Kind::Search, 0);

@@ -4,7 +4,6 @@
 
 use chargefile_tests::by_hand::*;
 use chargefile_tests::file::{ChargeFile, Looked};
-use chargefile_tests::key::index;
 use chargefile_tests::page::Record;
 use chargefile_tests::result;
 use chargefile_tests::run::result_bytes;
@@ -196,7 +195,7 @@ fn the_unfinished_tell_a_page_once_their_moment_is_known() {
 /// last, and call 33 in the first. Calls 293 and 495 have index 255 too.
 #[test]
 fn page_256_has_byte_255() {
-    let lowest = |j| (0..).find(|call| index(*call, 8) == j);
+    let lowest = |j| lowest_calls(j, 8).next();
     let record = |j| [(lowest(j).expect("a call for every index"), 100)];
     let records: Vec<[(u32, u32); 1]> = (0..256).map(record).collect();
     let page = |j: u32| (8, j, &records[j as usize][..]);

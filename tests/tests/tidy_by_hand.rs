@@ -1,11 +1,11 @@
 //! Small files tidied by hand ("Tidying between runs").
 //!
-//! Of the calls, the last bits count: the pseudo key of an even call begins with 0, of an odd one with 1; that of 0, 4, 8 with 00, of 2, 6, 10 with 01,
-//! of 1, 5, 9 with 10 and of 3, 7, 11 with 11.
+//! The calls are those of `CALLS_BY_FIRST_BITS`: the pseudo key of 4 and 11 begins with 00, of 7 and 10 with 01, of 3, 5 and 12 with 10 and of 8 and 15
+//! with 11.
 
+use chargefile_tests::by_hand::lowest_calls;
 use chargefile_tests::file::ChargeFile;
 use chargefile_tests::job::{Job, Kind, Operation};
-use chargefile_tests::key::call_with;
 use chargefile_tests::page::{Page, Record};
 use chargefile_tests::{check, tidy, Outcome};
 
@@ -50,21 +50,21 @@ fn refused(number: u32, place: u32) -> Outcome {
     Outcome::Refused { number, place }
 }
 
-/// Byte for byte: g 1, c 2, P 2; page 1 has calls 2 and 4, page 2 is empty. It is the file that job E leaves, but for the charges.
+/// Byte for byte: g 1, c 2, P 2; page 1 has calls 4 and 7, page 2 is empty.
 #[test]
 fn the_bytes_of_a_tidied_file() {
-    let came_in = file((1, 2, 2), &[page(1, 0, &[2, 4]), page(1, 1, &[])]);
+    let came_in = file((1, 2, 2), &[page(1, 0, &[4, 7]), page(1, 1, &[])]);
     let wanted = [
-        // version 1, g 0, c 2, P 2, U 1, no operations, no turns
-        &[1, 0, 0, 2, 2, 0, 1, 0, 0, 0, 0, 0][..],
+        // version 2, g 0, c 2, P 2, U 1, no operations, no turns
+        &[2, 0, 0, 2, 2, 0, 1, 0, 0, 0, 0, 0][..],
         // the directory at 32, the page table at 34, the rest at 74, which is the total
         &[32, 0, 0, 0, 34, 0, 0, 0, 74, 0, 0, 0],
         &[74, 0, 0, 0, 74, 0, 0, 0],
         // the one entry
         &[1, 0],
         // page 1: depth 0, 2 records, pattern 0
-        &[0, 2, 0, 0, 2, 0, 0, 0, 102, 0, 0, 0],
-        &[4, 0, 0, 0, 104, 0, 0, 0],
+        &[0, 2, 0, 0, 4, 0, 0, 0, 104, 0, 0, 0],
+        &[7, 0, 0, 0, 107, 0, 0, 0],
         // page 2, no longer in use
         &[0; 20],
     ]
@@ -75,27 +75,27 @@ fn the_bytes_of_a_tidied_file() {
 
 #[test]
 fn two_thin_pages_join() {
-    let thin = file((1, 2, 2), &[page(1, 0, &[2]), page(1, 1, &[3])]);
-    let joined = file((1, 2, 2), &[page(0, 0, &[2, 3])]);
+    let thin = file((1, 2, 2), &[page(1, 0, &[4]), page(1, 1, &[5])]);
+    let joined = file((1, 2, 2), &[page(0, 0, &[4, 5])]);
     assert_eq!(tidied(&thin, 1), joined);
-    let in_page_order = file((1, 2, 2), &[page(1, 1, &[3]), page(1, 0, &[2])]);
+    let in_page_order = file((1, 2, 2), &[page(1, 1, &[5]), page(1, 0, &[4])]);
     assert_eq!(tidied(&in_page_order, 1), joined);
 }
 
 #[test]
 fn to_just_c_records_and_no_more() {
-    let pages = [page(1, 0, &[2, 4]), page(1, 1, &[3])];
-    let full = file((1, 3, 2), &[page(0, 0, &[2, 3, 4])]);
+    let pages = [page(1, 0, &[4, 7]), page(1, 1, &[5])];
+    let full = file((1, 3, 2), &[page(0, 0, &[4, 5, 7])]);
     assert_eq!(tidied(&file((1, 3, 2), &pages), 1), full);
     let one_more = file((1, 2, 2), &pages);
     assert_eq!(tidied(&one_more, 1), one_more);
 }
 
-/// The calls of one page do not all stand before those of the other.
+/// The calls of one page do not all stand before those of the other. The pseudo key of call 4,000,000,000 begins with 0.
 #[test]
 fn the_calls_of_a_joined_page_rise() {
-    let pages = [page(1, 0, &[2, 6, 4_000_000_000]), page(1, 1, &[1, 5, 7])];
-    let joined = page(0, 0, &[1, 2, 5, 6, 7, 4_000_000_000]);
+    let pages = [page(1, 0, &[4, 7, 4_000_000_000]), page(1, 1, &[3, 5, 8])];
+    let joined = page(0, 0, &[3, 4, 5, 7, 8, 4_000_000_000]);
     let wanted = file((0, 6, 3), &[joined]);
     assert_eq!(tidied(&file((2, 6, 3), &pages), 0), wanted);
 }
@@ -103,18 +103,18 @@ fn the_calls_of_a_joined_page_rise() {
 /// Only when the two deep pages are one can that one join the third.
 #[test]
 fn three_pages_come_to_one_in_two_joins() {
-    let pages = [page(1, 0, &[4]), page(2, 2, &[5]), page(2, 3, &[7])];
-    let wanted = file((2, 3, 4), &[page(0, 0, &[4, 5, 7])]);
+    let pages = [page(1, 0, &[4]), page(2, 2, &[5]), page(2, 3, &[8])];
+    let wanted = file((2, 3, 4), &[page(0, 0, &[4, 5, 8])]);
     assert_eq!(tidied(&file((2, 3, 4), &pages), 2), wanted);
     // with room for two, the joined page stays beside the third
-    let wanted = file((2, 2, 4), &[page(1, 0, &[4]), page(1, 1, &[5, 7])]);
+    let wanted = file((2, 2, 4), &[page(1, 0, &[4]), page(1, 1, &[5, 8])]);
     assert_eq!(tidied(&file((2, 2, 4), &pages), 2), wanted);
 }
 
 /// Page 0 is empty, and would join 1 if there were one. But 10 and 11 have too many records to be that page, and with either alone it makes no pair.
 #[test]
 fn a_page_of_another_depth_does_not_join() {
-    let pages = [page(1, 0, &[]), page(2, 2, &[1, 5]), page(2, 3, &[3, 7])];
+    let pages = [page(1, 0, &[]), page(2, 2, &[3, 12]), page(2, 3, &[8, 15])];
     let as_it_is = file((2, 3, 3), &pages);
     assert_eq!(tidied(&as_it_is, 2), as_it_is);
 }
@@ -123,18 +123,18 @@ fn a_page_of_another_depth_does_not_join() {
 #[test]
 fn only_the_last_bit_may_differ() {
     let pages = [
-        page(2, 0, &[4, 8]),
-        page(2, 1, &[2]),
-        page(2, 2, &[1]),
-        page(2, 3, &[3, 7]),
+        page(2, 0, &[4, 11]),
+        page(2, 1, &[7]),
+        page(2, 2, &[3]),
+        page(2, 3, &[8, 15]),
     ];
     let as_it_is = file((2, 2, 4), &pages);
     assert_eq!(tidied(&as_it_is, 2), as_it_is);
     let pages = [
         page(2, 0, &[4]),
-        page(2, 1, &[2, 6]),
-        page(2, 2, &[1]),
-        page(2, 3, &[3, 7]),
+        page(2, 1, &[7, 10]),
+        page(2, 2, &[3]),
+        page(2, 3, &[8, 15]),
     ];
     let as_it_is = file((2, 2, 4), &pages);
     assert_eq!(tidied(&as_it_is, 2), as_it_is);
@@ -142,17 +142,17 @@ fn only_the_last_bit_may_differ() {
 
 #[test]
 fn pages_are_numbered_by_their_first_entry() {
-    let (first, second) = (page(2, 0, &[4, 8]), page(2, 1, &[2]));
-    let third = page(1, 1, &[1, 3]);
+    let (first, second) = (page(2, 0, &[4, 11]), page(2, 1, &[7]));
+    let third = page(1, 1, &[3, 8]);
     let mixed = [third.clone(), second.clone(), first.clone()];
     let tidy = file((2, 2, 5), &[first, second, third]);
     let left = tidied(&file((2, 2, 5), &mixed), 2);
     assert_eq!(left, tidy);
     assert_eq!(left.directory, [1, 2, 3, 3]);
     // a page that came of a join goes by its first entry too
-    let pages = [page(2, 3, &[3]), page(1, 0, &[2, 4]), page(2, 2, &[1])];
+    let pages = [page(2, 3, &[8]), page(1, 0, &[4, 7]), page(2, 2, &[3])];
     let left = tidied(&file((2, 2, 3), &pages), 2);
-    let wanted = [page(1, 0, &[2, 4]), page(1, 1, &[1, 3])];
+    let wanted = [page(1, 0, &[4, 7]), page(1, 1, &[3, 8])];
     assert_eq!(left, file((2, 2, 3), &wanted));
     assert_eq!(left.directory, [1, 1, 2, 2]);
 }
@@ -160,17 +160,17 @@ fn pages_are_numbered_by_their_first_entry() {
 /// P and c are what they were, whatever comes of the pages and the directory.
 #[test]
 fn pages_no_longer_in_use_are_zero() {
-    let pages = [page(2, 0, &[]), page(2, 1, &[]), page(1, 1, &[9])];
+    let pages = [page(2, 0, &[]), page(2, 1, &[]), page(1, 1, &[5])];
     let left = tidied(&file((2, 4, 9), &pages), 0);
     assert_eq!((left.in_use, left.capacity, left.pages.len()), (1, 4, 9));
-    assert_eq!(left.pages[0], page(0, 0, &[9]));
+    assert_eq!(left.pages[0], page(0, 0, &[5]));
     assert!(left.pages[1..].iter().all(|page| *page == Page::default()));
 }
 
 /// Nothing joins here, so only the directory is another.
 #[test]
 fn the_directory_is_deeper_or_less_deep() {
-    let pages = [page(1, 0, &[2]), page(1, 1, &[3])];
+    let pages = [page(1, 0, &[4]), page(1, 1, &[5])];
     let at = |depth| file((depth, 1, 2), &pages);
     for depth in [1, 2, 3, 8] {
         assert_eq!(tidied(&at(1), u64::from(depth)), at(depth));
@@ -212,7 +212,7 @@ fn a_depth_above_eight_is_refused() {
 /// It is the pages left that count, and not those that came in: three come to one, and depth 0 is taken.
 #[test]
 fn a_depth_below_a_page_that_came_in() {
-    let pages = [page(1, 0, &[4]), page(2, 2, &[5]), page(2, 3, &[7])];
+    let pages = [page(1, 0, &[4]), page(2, 2, &[5]), page(2, 3, &[8])];
     assert_eq!(tidied(&file((2, 3, 3), &pages), 0).directory, [1]);
     let two_left = file((2, 2, 3), &pages);
     assert_eq!(tidied(&two_left, 1).directory, [1, 2]);
@@ -223,7 +223,7 @@ fn a_depth_below_a_page_that_came_in() {
 /// The largest: 32, 2 * 256 and 256 * 68 bytes. Each page has five records, so that no two can join.
 #[test]
 fn the_largest_file() {
-    let calls = |pattern| [1, 2, 3, 4, 5].map(|rest| call_with(pattern, 8, rest));
+    let calls = |pattern| lowest_calls(pattern, 8).take(5).collect::<Vec<u32>>();
     let pages: Vec<Page> = (0..256).map(|p| page(8, p, &calls(p))).collect();
     let largest = file((8, 8, 256), &pages);
     let bytes = Job::charge_file(&largest);
@@ -236,10 +236,10 @@ fn the_largest_file() {
 /// Each refusal comes before those below it, which the same call would meet as well.
 #[test]
 fn the_order_of_refusals() {
-    let pages = [page(1, 0, &[2, 4]), page(1, 1, &[3])];
+    let pages = [page(1, 0, &[4, 7]), page(1, 1, &[5])];
     let operation = Operation {
         kind: Kind::Search,
-        call: 3,
+        call: 5,
         charge: 0,
     };
     let job = Job {
@@ -270,10 +270,23 @@ fn the_order_of_refusals() {
     assert_eq!(done, Outcome::Done { result: alone });
 }
 
+/// It is refused before the depth and the room are looked at.
+#[test]
+fn a_file_of_another_version_is_refused() {
+    let mut bytes = Job::charge_file(&file((0, 1, 1), &[page(0, 0, &[])]));
+    assert_eq!(bytes[..2], [2, 0]);
+    for version in [0u16, 1, 3, 257, 258] {
+        bytes[..2].copy_from_slice(&version.to_le_bytes());
+        for (depth, room) in [(0, ENOUGH), (9, 0)] {
+            assert_eq!(tidy(&bytes, depth, room), refused(2, 0), "{version}");
+        }
+    }
+}
+
 /// The room that counts is the tidied file's, be it shorter or longer than the one that came in.
 #[test]
 fn the_room_is_the_tidied_files() {
-    let came_in = Job::charge_file(&file((3, 2, 1), &[page(0, 0, &[2])]));
+    let came_in = Job::charge_file(&file((3, 2, 1), &[page(0, 0, &[4])]));
     assert_eq!(came_in.len(), 32 + 16 + 20);
     for (depth, length) in [(0, 54), (2, 60), (3, 68), (4, 84), (8, 564)] {
         assert_eq!(tidy(&came_in, depth, length - 1), refused(11, 0));
