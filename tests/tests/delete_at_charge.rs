@@ -1,6 +1,7 @@
 //! "Delete only at this charge", on small jobs reckoned by hand, one operation
 //! after another: what is struck out and what is not, the answer's bytes, the
-//! file's, and what is refused.
+//! file's, and what is refused. Of the calls, which are those of
+//! `CALLS_BY_FIRST_BITS`, 10 and 13 have index 0 at depth 1, 12 and 15 index 1.
 
 use chargefile_tests::answer::{Code, CODES};
 use chargefile_tests::by_hand::*;
@@ -32,9 +33,9 @@ const CHARGES: [u32; 16] = [
     u32::MAX,
 ];
 
-/// One delete of call 2, which is there at a charge; call 3 is there at another.
-fn delete_2(asked: u32, held: u32) -> Told {
-    one_by_one(&one_page(&[(2, held), (3, 70)]), &[delete_at(2, asked)])
+/// One delete of call 10, which is there at a charge; call 12 is there at another.
+fn delete_10(asked: u32, held: u32) -> Told {
+    one_by_one(&one_page(&[(10, held), (12, 70)]), &[delete_at(10, asked)])
 }
 
 /// It takes (a), (b), (c), (d), the page writing, which is its moment, and the
@@ -42,7 +43,7 @@ fn delete_2(asked: u32, held: u32) -> Told {
 fn is_struck(told: &Told, held: u32) {
     assert_eq!(told.answers, [(DELETED, 0, 6, held)]);
     assert_eq!(told.log, [(4, 0)]);
-    assert_eq!(told.file, bytes(&one_page(&[(3, 70)])));
+    assert_eq!(told.file, bytes(&one_page(&[(12, 70)])));
 }
 
 /// It takes (a), (b), (c), (d), which is its moment, and the unlocking: "nothing
@@ -50,36 +51,36 @@ fn is_struck(told: &Told, held: u32) {
 fn differs(told: &Told, held: u32) {
     assert_eq!(told.answers, [(DIFFERS, 0, 5, held)]);
     assert_eq!(told.log, [(3, 0)]);
-    assert_eq!(told.file, bytes(&one_page(&[(2, held), (3, 70)])));
+    assert_eq!(told.file, bytes(&one_page(&[(10, held), (12, 70)])));
 }
 
 #[test]
 fn equal_is_struck_out() {
-    is_struck(&delete_2(5, 5), 5);
-    is_struck(&delete_2(u32::MAX, u32::MAX), u32::MAX);
+    is_struck(&delete_10(5, 5), 5);
+    is_struck(&delete_10(u32::MAX, u32::MAX), u32::MAX);
 }
 
 #[test]
 fn another_charge_differs_and_the_files_is_told() {
-    differs(&delete_2(6, 5), 5);
-    differs(&delete_2(5, 6), 6);
-    differs(&delete_2(u32::MAX, 5), 5);
-    differs(&delete_2(5, u32::MAX), u32::MAX);
-    differs(&delete_2(u32::MAX, u32::MAX - 1), u32::MAX - 1);
+    differs(&delete_10(6, 5), 5);
+    differs(&delete_10(5, 6), 6);
+    differs(&delete_10(u32::MAX, 5), 5);
+    differs(&delete_10(5, u32::MAX), u32::MAX);
+    differs(&delete_10(u32::MAX, u32::MAX - 1), u32::MAX - 1);
 }
 
 #[test]
 fn zero_strikes_out_at_any_charge() {
     for held in CHARGES {
-        is_struck(&delete_2(0, held), held);
+        is_struck(&delete_10(0, held), held);
     }
 }
 
 #[test]
 fn a_call_at_zero_is_struck_out_by_zero_alone() {
-    is_struck(&delete_2(0, 0), 0);
+    is_struck(&delete_10(0, 0), 0);
     for asked in &CHARGES[1..] {
-        differs(&delete_2(*asked, 0), 0);
+        differs(&delete_10(*asked, 0), 0);
     }
 }
 
@@ -90,7 +91,7 @@ fn each_of_some_charges_with_each() {
     let (mut struck, mut left) = (0, 0);
     for (i, asked) in CHARGES.into_iter().enumerate() {
         for (k, held) in CHARGES.into_iter().enumerate() {
-            let told = delete_2(asked, held);
+            let told = delete_10(asked, held);
             if i == 0 || i == k {
                 is_struck(&told, held);
                 struck += 1;
@@ -108,10 +109,10 @@ fn each_of_some_charges_with_each() {
 fn charges_that_differ_in_one_bit_or_one_byte() {
     for held in [0x0403_0201, 0x8000_0080, u32::MAX, 0] {
         for bit in 0..32 {
-            differs(&delete_2(held ^ 1 << bit, held), held);
+            differs(&delete_10(held ^ 1 << bit, held), held);
         }
         for byte in 0..4 {
-            differs(&delete_2(held ^ 0xff << (8 * byte), held), held);
+            differs(&delete_10(held ^ 0xff << (8 * byte), held), held);
         }
     }
 }
@@ -119,24 +120,24 @@ fn charges_that_differ_in_one_bit_or_one_byte() {
 /// Whatever is asked, a missing call is absent, with charge 0.
 #[test]
 fn a_missing_call_is_absent() {
-    let file = one_page(&[(3, 70)]);
+    let file = one_page(&[(12, 70)]);
     for asked in CHARGES.into_iter().chain([70]) {
-        let told = one_by_one(&file, &[delete_at(2, asked)]);
+        let told = one_by_one(&file, &[delete_at(10, asked)]);
         assert_eq!(told.answers, [(ABSENT, 0, 5, 0)], "asked {asked}");
         assert_eq!((told.log, told.file), (vec![(3, 0)], bytes(&file)));
     }
 }
 
-/// The charge that counts is the call's own: 5 is that of call 2, and 70 that of
-/// call 3, which stands behind it.
+/// The charge that counts is the call's own: 5 is that of call 10, and 70 that of
+/// call 12, which stands behind it.
 #[test]
 fn the_charge_of_another_call_does_not_count() {
-    let file = one_page(&[(2, 5), (3, 70)]);
+    let file = one_page(&[(10, 5), (12, 70)]);
     let operations = [
-        delete_at(2, 70),
-        delete_at(3, 5),
-        delete_at(3, 70),
-        delete_at(2, 5),
+        delete_at(10, 70),
+        delete_at(12, 5),
+        delete_at(12, 70),
+        delete_at(10, 5),
     ];
     let told = one_by_one(&file, &operations);
     let wanted = [
@@ -152,12 +153,12 @@ fn the_charge_of_another_call_does_not_count() {
 /// "A delete with a charge" of one call after the other, in both orders.
 #[test]
 fn two_deletes_of_one_call_at_two_charges() {
-    let file = one_page(&[(2, 5)]);
-    let told = one_by_one(&file, &[delete_at(2, 6), delete_at(2, 5)]);
+    let file = one_page(&[(10, 5)]);
+    let told = one_by_one(&file, &[delete_at(10, 6), delete_at(10, 5)]);
     assert_eq!(told.answers, [(DIFFERS, 0, 5, 5), (DELETED, 0, 6, 5)]);
     assert_eq!(told.log, [(3, 0), (24, 1)]);
     assert_eq!(told.file, bytes(&one_page(&[])));
-    let told = one_by_one(&file, &[delete_at(2, 5), delete_at(2, 6)]);
+    let told = one_by_one(&file, &[delete_at(10, 5), delete_at(10, 6)]);
     assert_eq!(told.answers, [(DELETED, 0, 6, 5), (ABSENT, 0, 5, 0)]);
     assert_eq!(told.log, [(4, 0), (23, 1)]);
 }
@@ -166,9 +167,9 @@ fn two_deletes_of_one_call_at_two_charges() {
 /// fourth turn, and with the fifth the operation is done, whatever is dealt on.
 #[test]
 fn turn_by_turn() {
-    let file = one_page(&[(2, 5), (3, 70)]);
+    let file = one_page(&[(10, 5), (12, 70)]);
     for turns in 0..9 {
-        let told = told(&file, &[delete_at(2, 6)], &[(0, turns)]);
+        let told = told(&file, &[delete_at(10, 6)], &[(0, turns)]);
         let wanted = match turns {
             0..=3 => (NOT_YET, 0, turns, 0),
             4 => (DIFFERS, 0, 4, 5),
@@ -188,8 +189,8 @@ fn turn_by_turn() {
 /// unlocking.
 #[test]
 fn nothing_changes_on_any_turn() {
-    let file = file(1, 3, &[(1, 0, &[(2, 5)]), (1, 1, &[(3, 70), (5, 0)])]);
-    for (call, page) in [(2, 1), (3, 2), (5, 2)] {
+    let file = file(1, 3, &[(1, 0, &[(10, 5)]), (1, 1, &[(12, 70), (15, 0)])]);
+    for (call, page) in [(10, 1), (12, 2), (15, 2)] {
         let mut run = Run::new(&job(&file, &[delete_at(call, 6)], &[]));
         for turns in 1..=5 {
             assert_eq!(run.deal(0), Turned::Did);
@@ -207,8 +208,8 @@ fn nothing_changes_on_any_turn() {
 /// "The page read in turn (d)", less one.
 #[test]
 fn the_page_behind_a_9() {
-    let pages: [ByHand; 2] = [(1, 0, &[(2, 5)]), (1, 1, &[(3, 70), (5, 0)])];
-    let operations = [delete_at(2, 70), delete_at(3, 5), delete_at(5, 70)];
+    let pages: [ByHand; 2] = [(1, 0, &[(10, 5)]), (1, 1, &[(12, 70), (15, 0)])];
+    let operations = [delete_at(10, 70), delete_at(12, 5), delete_at(15, 70)];
     let rising = file(1, 2, &pages);
     let wanted = [(DIFFERS, 0, 5, 5), (DIFFERS, 1, 5, 70), (DIFFERS, 1, 5, 0)];
     assert_eq!(one_by_one(&rising, &operations).answers, wanted);
@@ -217,13 +218,13 @@ fn the_page_behind_a_9() {
     assert_eq!(one_by_one(&falling, &operations).answers, wanted);
 }
 
-/// Page 256 is that of entry 255, and call 255 belongs there.
+/// Page 256 is that of entry 255, and calls 68 and 293 belong there.
 #[test]
 fn a_9_on_page_256() {
     let pages: Vec<ByHand> = (0..255).map(|j| (8, j, &[][..])).collect();
-    let last: ByHand = (8, 255, &[(255, 256), (511, 1)]);
+    let last: ByHand = (8, 255, &[(68, 256), (293, 1)]);
     let file = file(8, 256, &[pages, vec![last]].concat());
-    let told = one_by_one(&file, &[delete_at(255, 1), delete_at(511, 256)]);
+    let told = one_by_one(&file, &[delete_at(68, 1), delete_at(293, 256)]);
     assert_eq!(told.answers, [(DIFFERS, 255, 5, 256), (DIFFERS, 255, 5, 1)]);
     assert_eq!(told.file, bytes(&file));
 }
@@ -233,14 +234,14 @@ fn a_9_on_page_256() {
 #[test]
 fn the_plain_list() {
     let held = |records: &[(u32, u32)]| PlainList::of(&one_page(records).holds()).unwrap();
-    let came_in = held(&[(2, 5), (3, 0)]);
+    let came_in = held(&[(10, 5), (12, 0)]);
     for (call, asked, wanted) in [
-        (2, 6, (Code::Differs, 5)),
-        (2, u32::MAX, (Code::Differs, 5)),
-        (2, 5 + 256, (Code::Differs, 5)),
-        (3, 5, (Code::Differs, 0)),
-        (4, 5, (Code::Absent, 0)),
-        (4, 0, (Code::Absent, 0)),
+        (10, 6, (Code::Differs, 5)),
+        (10, u32::MAX, (Code::Differs, 5)),
+        (10, 5 + 256, (Code::Differs, 5)),
+        (12, 5, (Code::Differs, 0)),
+        (13, 5, (Code::Absent, 0)),
+        (13, 0, (Code::Absent, 0)),
     ] {
         let mut list = came_in.clone();
         let fed = list.feed(&delete_at(call, asked), None);
@@ -248,38 +249,42 @@ fn the_plain_list() {
     }
     for asked in [0, 5] {
         let mut list = came_in.clone();
-        assert_eq!(list.feed(&delete_at(2, asked), None), (Code::Deleted, 5));
-        assert_eq!(list, held(&[(3, 0)]));
+        assert_eq!(list.feed(&delete_at(10, asked), None), (Code::Deleted, 5));
+        assert_eq!(list, held(&[(12, 0)]));
     }
     for code in CODES {
-        assert_eq!(told_to_the_list(&delete_at(2, 5), code), None);
+        assert_eq!(told_to_the_list(&delete_at(10, 5), code), None);
     }
 }
 
 #[test]
 fn it_is_printed_as_differs() {
-    let operations = [delete_at(2, 6), delete_at(3, 70), search(2)];
-    let file = one_page(&[(2, 5), (3, 70)]);
+    let operations = [delete_at(10, 6), delete_at(12, 70), search(10)];
+    let file = one_page(&[(10, 5), (12, 70)]);
     let job = job(&file, &operations, &[(0, 5), (1, 6), (2, 2)]);
     let text = "\
 job depth 1 capacity 2 pages 2 operations 3 turns 13
-op 0 delete 2 differs 5 turns 5
-op 1 delete 3 deleted 70 turns 6
-op 2 search 2 found 5 turns 2
+op 0 delete 10 differs 5 turns 5
+op 1 delete 12 deleted 70 turns 6
+op 2 search 10 found 5 turns 2
 at 3 op 0
 at 9 op 1
 at 12 op 2
-page 1 depth 0 pattern 0 : 2=5
+page 1 depth 0 pattern 0 : 10=5
 ";
     assert_eq!(String::from_utf8(report(&job.to_bytes())).unwrap(), text);
 }
 
-/// The job's version stays 1 and the result's 2; a reader of results takes code 9
-/// and no higher one.
+/// The job's version is 2, and no other is taken; so is the result's. A reader of
+/// results takes code 9 and no higher one.
 #[test]
 fn versions_and_the_reader_of_results() {
-    let job = job(&one_page(&[(2, 5)]), &[delete_at(2, 6)], &[(0, 5)]).to_bytes();
-    assert_eq!(job[..2], [1, 0]);
+    let job = job(&one_page(&[(10, 5)]), &[delete_at(10, 6)], &[(0, 5)]).to_bytes();
+    assert_eq!(job[..2], [2, 0]);
+    for version in [0u16, 1, 3, 257, 258] {
+        let other = [&version.to_le_bytes()[..], &job[2..]].concat();
+        assert_eq!(check(&other), Some((2, 0)), "version {version}");
+    }
     let mut result = result_bytes(&job);
     assert_eq!((&result[..2], result[24]), (&[2, 0][..], 9));
     let code = |result: &[u8]| result::from_bytes(result).map(|told| told.answers[0].code);
@@ -291,7 +296,7 @@ fn versions_and_the_reader_of_results() {
 /// A job with one operation; its row stands at 76, behind header, two entries and
 /// two pages.
 fn row_with(operation: Operation, at: usize, byte: u8) -> Vec<u8> {
-    let file = one_page(&[(2, 5), (3, 70)]);
+    let file = one_page(&[(10, 5), (12, 70)]);
     let mut job = job(&file, &[operation], &[(0, 6)]).to_bytes();
     job[76 + at] = byte;
     job
@@ -302,21 +307,21 @@ fn row_with(operation: Operation, at: usize, byte: u8) -> Vec<u8> {
 fn what_is_refused() {
     for byte in [1, 128, 255] {
         for at in 6..10 {
-            assert_eq!(check(&row_with(search(2), at, byte)), Some((9, 76)));
-            assert_eq!(check(&row_with(delete(2), at, byte)), None);
-            assert_eq!(check(&row_with(delete_at(2, 5), at, byte)), None);
-            assert_eq!(check(&row_with(insert(2, 0), at, byte)), None);
+            assert_eq!(check(&row_with(search(10), at, byte)), Some((9, 76)));
+            assert_eq!(check(&row_with(delete(10), at, byte)), None);
+            assert_eq!(check(&row_with(delete_at(10, 5), at, byte)), None);
+            assert_eq!(check(&row_with(insert(10, 0), at, byte)), None);
         }
-        for operation in [search(2), insert(2, 5), delete(2), delete_at(2, 5)] {
+        for operation in [search(10), insert(10, 5), delete(10), delete_at(10, 5)] {
             assert_eq!(check(&row_with(operation, 1, byte)), Some((9, 76)));
         }
     }
     assert_eq!(
-        check(&row_with(delete_at(2, 5), 0, 1)),
+        check(&row_with(delete_at(10, 5), 0, 1)),
         Some((9, 76)),
         "a search"
     );
-    assert_eq!(check(&row_with(delete_at(2, 5), 0, 2)), None, "an insert");
-    assert_eq!(check(&row_with(delete_at(2, 5), 0, 4)), Some((9, 76)));
-    assert_eq!(report(&row_with(search(2), 9, 1)), b"refused 9 76\n");
+    assert_eq!(check(&row_with(delete_at(10, 5), 0, 2)), None, "an insert");
+    assert_eq!(check(&row_with(delete_at(10, 5), 0, 4)), Some((9, 76)));
+    assert_eq!(report(&row_with(search(10), 9, 1)), b"refused 9 76\n");
 }
