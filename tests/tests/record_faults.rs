@@ -29,14 +29,15 @@ const SHARE: usize = 16;
 const DEPTH: usize = 2;
 const CAPACITY: usize = 4;
 
-/// Calls that share few of their first bits, and calls that rise by other bytes than the first, past the highest bit too.
-const SMALL: [u32; 8] = [0, 1, 2, 3, 4, 5, 6, 7];
+/// Calls whose pseudo keys share few of their first bits, and calls that rise by other bytes than the first, past the highest bit too. Of either there are
+/// two for each pattern of two bits; the first bits of the small ones are 0 and 1 by turns.
+const SMALL: [u32; 8] = [0, 1, 4, 5, 9, 12, 13, 15];
 const WIDE: [u32; 8] = [
-    2,
+    7,
     0x0101,
     0x0102,
     0x01_0000,
-    0x0100_0001,
+    0x0100_0003,
     0x7fff_ffff,
     0x8000_0000,
     u32::MAX,
@@ -88,13 +89,11 @@ struct Wrong {
 }
 
 impl Wrong {
-    /// By each sentence alone: the pseudo key, a text of the call's bits from its last on, does not begin with the pattern's bits; the call is not above the
-    /// one before it; the call is earlier in the page.
+    /// By each sentence alone: the pseudo key, as a text, does not begin with the pattern's bits; the call is not above the one before it; the call is
+    /// earlier in the page.
     fn of(calls: &[u32], k: usize, pattern: &str) -> Wrong {
-        let bit = |position: u32| char::from(b'0' + (calls[k] >> position & 1) as u8);
-        let key: String = (0..32).map(bit).collect();
         Wrong {
-            not_begun: !key.starts_with(pattern),
+            not_begun: !key_text(calls[k]).starts_with(pattern),
             not_above: k > 0 && calls[k] <= calls[k - 1],
             earlier: calls[..k].contains(&calls[k]),
         }
@@ -103,6 +102,15 @@ impl Wrong {
     fn any(self) -> bool {
         self.not_begun || self.not_above || self.earlier
     }
+}
+
+/// The pseudo key as a text of 32 bits. Its multiplications are of whole numbers, with the remainder taken of each.
+fn key_text(call: u32) -> String {
+    let bytes = [1, 256, 65_536, 16_777_216].map(|worth| u64::from(call) / worth % 256);
+    let key = bytes.iter().fold(2_166_136_261, |key, byte| {
+        (key ^ byte) * 16_777_619 % 4_294_967_296
+    });
+    format!("{key:032b}")
 }
 
 /// How often a record was told, by what is wrong with it.
