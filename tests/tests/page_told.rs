@@ -4,6 +4,7 @@
 
 use chargefile_tests::by_hand::*;
 use chargefile_tests::file::{ChargeFile, Looked};
+use chargefile_tests::key::pseudo_key;
 use chargefile_tests::page::Record;
 use chargefile_tests::result;
 use chargefile_tests::run::result_bytes;
@@ -191,13 +192,52 @@ fn the_unfinished_tell_a_page_once_their_moment_is_known() {
     }
 }
 
-/// A page for each entry, with the lowest call that belongs there: call 68 in the
-/// last, and call 33 in the first. Calls 293 and 495 have index 255 too.
+/// They are two calls all the same, each with its own record, and no split parts
+/// them. The pseudo keys of call 45 and of these two begin with 01000, that of
+/// call 0 with 01001: insert 0 takes five pages, and page 3 gets the two.
 #[test]
-fn page_256_has_byte_255() {
+fn two_calls_with_one_pseudo_key() {
+    let (low, high) = (141_231_736, 474_790_318);
+    assert_eq!([low, high].map(pseudo_key), [0x47c6_07a0; 2]);
+    let came_in = file(5, 6, &[(0, 0, &[(low, 100)])]);
+    let operations = [
+        search(high),
+        delete(high),
+        insert(high, 7),
+        insert(45, 7),
+        insert(0, 7),
+        delete(low),
+        search(low),
+        search(high),
+    ];
+    let wanted = [
+        (NONE, 0),
+        (ABSENT, 0),
+        (STORED, 0),
+        (NO_DEPTH, 0),
+        (STORED, 5),
+        (DELETED, 2),
+        (NONE, 2),
+        (FOUND, 2),
+    ];
+    let turns: Vec<(usize, usize)> = (0..operations.len()).map(|i| (i, 40)).collect();
+    let now = told(&came_in, &operations, &turns);
+    assert_eq!(now.codes_and_pages(), wanted);
+    assert_eq!(now.answers[7].3, 7, "the charge is that of the higher call");
+}
+
+/// A record for each index, with the lowest call that has it: call 33 for index 0,
+/// and call 68 for index 255. Calls 293 and 495 have index 255 too.
+fn a_record_for_each_index() -> Vec<[(u32, u32); 1]> {
     let lowest = |j| lowest_calls(j, 8).next();
     let record = |j| [(lowest(j).expect("a call for every index"), 100)];
-    let records: Vec<[(u32, u32); 1]> = (0..256).map(record).collect();
+    (0..256).map(record).collect()
+}
+
+/// A page for each entry.
+#[test]
+fn page_256_has_byte_255() {
+    let records = a_record_for_each_index();
     let page = |j: u32| (8, j, &records[j as usize][..]);
     let pages: Vec<ByHand> = (0..256).map(page).collect();
     let operations = [

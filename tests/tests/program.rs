@@ -74,6 +74,15 @@ fn no_input_is_refused() {
 }
 
 #[test]
+fn a_job_of_another_version_is_refused() {
+    let job = vectors::read("00-base/marked-b").job;
+    for version in [0u16, 1, 3, 257, 258] {
+        let other = [&version.to_le_bytes()[..], &job[2..]].concat();
+        assert_eq!(chargelog(&other), b"refused 2 0\n", "version {version}");
+    }
+}
+
+#[test]
 fn a_job_in_pieces_is_read_whole() {
     let vector = vectors::read("00-base/marked-b");
     let job = vector.job;
