@@ -38,6 +38,7 @@ pub mod damage;
 pub mod damage_pages;
 pub mod damage_records;
 pub mod examples;
+pub mod examples_parts;
 pub mod explain;
 pub mod file;
 pub mod job;

@@ -109,8 +109,16 @@ fn april_begins_with_the_file_that_job_e_leaves() {
     let run = dealt(&april);
     assert!(run.waits > 0, "insert 6 waits for the delete");
     assert_eq!(run.unfinished().count(), 0);
-    let told = [Code::Deleted, Code::Stored, Code::Stored, Code::Found];
-    assert_eq!(codes(&run), told);
+    use Code::{Deleted, Found, NoDepth, Stored};
+    assert_eq!(codes(&run), [Stored, Deleted, Stored, Stored, Found]);
+    let insert_first = |turn: &usize| [0, 2, 1, 3, 4][*turn];
+    let other_way = Job {
+        turns: april.turns.iter().map(insert_first).collect(),
+        ..april
+    };
+    let run = dealt(&other_way);
+    assert_eq!(run.unfinished().count(), 0);
+    assert_eq!(codes(&run), [Stored, Deleted, NoDepth, Stored, Found]);
 }
 
 #[test]
@@ -143,7 +151,7 @@ fn stale_searches_have_the_moment_of_the_change() {
     let job = example("stale");
     let run = dealt(&job);
     assert_eq!(run.shared.tally.stale_found, 2);
-    assert_eq!(run.shared.tally.stale_found_gone, 1, "call 1 was deleted");
+    assert_eq!(run.shared.tally.stale_found_gone, 1, "call 3 was deleted");
     let (deleted, _) = moment_and_turns(&job, &run, 3);
     for (search, change) in [(1, 7), (2, 8)] {
         let (moment, turns) = moment_and_turns(&job, &run, search);
@@ -166,7 +174,7 @@ fn thin_leaves_pages_that_can_be_joined() {
     let calls: Vec<Vec<u32>> = file.pages.iter().map(|page| page.calls()).collect();
     assert_eq!(
         calls,
-        [vec![16], vec![9, 17, 25], vec![14], vec![12], vec![11]]
+        [vec![11], vec![3, 12, 19], vec![10], vec![14], vec![15]]
     );
 }
 
@@ -201,16 +209,16 @@ fn misfiled_names_the_record() {
     let job = example("misfiled").to_bytes();
     assert_eq!(check(&job), Some((8, 76)));
     let call = u32::from_le_bytes(job[76..80].try_into().expect("four bytes"));
-    assert_eq!(call, 6);
+    assert_eq!(call, 7);
 }
 
 #[test]
 fn late_calls_go_before_the_higher_ones() {
     let run = dealt(&example("late"));
     assert_eq!(codes(&run), [Code::Stored; 4]);
-    assert_eq!(run.shared.tally.splits, 1, "insert 6 splits page 1");
+    assert_eq!(run.shared.tally.splits, 1, "insert 7 splits page 1");
     let calls = |number: usize| run.shared.file.page(number).calls();
-    assert_eq!((calls(1), calls(2)), (vec![2, 6, 8], vec![3, 5, 7]));
+    assert_eq!((calls(1), calls(2)), (vec![4, 7, 9], vec![3, 5, 8]));
 }
 
 #[test]
