@@ -238,11 +238,11 @@ fn cards() -> Job {
         // The first of the two splits page 2 and takes page 5; the other waits
         // for page 2, and takes the place beside it.
         rounds(&[4, 5], 13),
-        // One after another. Call 7 belongs in page 2 too, and nothing parts it
-        // from these two.
+        // One after another. Call 7 belongs in page 2 too, and three bits do
+        // not part it from the two.
         [vec![6; 5], vec![7; 2]].concat(),
-        // One of the two is struck out. It is the other that is still there,
-        // and now there is room for call 7.
+        // One of the two is struck out. The other is still there, and beside
+        // it there is room for call 7.
         [vec![8; 6], vec![9; 3], vec![10; 2], vec![11; 6]].concat(),
     ];
     Job {
@@ -354,8 +354,8 @@ fn leftover() -> Job {
 /// to entry 0, where there is room for four.
 fn month() -> Job {
     let (file, mut calls) = brimful(even_file(MAX_DEPTH as u32, MAX_CAPACITY, MAX_PAGES, 7));
-    let (mut due, above): (BTreeSet<usize>, _) = ((1..=128).collect(), calls[1023] + 1);
-    let next = (above..).filter(|call| due.remove(&file.page_of(*call)));
+    let mut due: BTreeSet<usize> = (1..=128).collect();
+    let next = (calls[1023] + 1..).filter(|call| due.remove(&file.page_of(*call)));
     calls.extend(next.take(128));
     let above = calls[1151] + 1;
     let of_entry_0 = (above..).filter(|call| file.entry_of(*call) == 0);

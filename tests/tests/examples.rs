@@ -7,6 +7,7 @@ use std::path::{Path, PathBuf};
 use chargefile_tests::answer::{Code, Line};
 use chargefile_tests::examples::{examples, Example};
 use chargefile_tests::job::{Counts, Job, Kind, Operation};
+use chargefile_tests::key::{index, pseudo_key};
 use chargefile_tests::page::Record;
 use chargefile_tests::run::Run;
 use chargefile_tests::vectors;
@@ -86,6 +87,33 @@ fn each_has_its_text_in_the_readme() {
     }
 }
 
+/// The calls of a job's pages and operations.
+fn calls(job: &Job) -> BTreeSet<u32> {
+    let stored = job.file.pages.iter().flat_map(|page| page.calls());
+    stored
+        .chain(job.operations.iter().map(|o| o.call))
+        .collect()
+}
+
+#[test]
+fn the_readme_has_the_first_bits_of_each_call() {
+    let mut small = examples();
+    small.retain(|example| example.name != "month");
+    let all: BTreeSet<u32> = small.iter().flat_map(|e| calls(&e.job)).collect();
+    let beginning = |entry: usize| -> String {
+        let there = all.iter().filter(|call| index(**call, 4) == entry);
+        let words: Vec<String> = there.map(u32::to_string).collect();
+        words.join(" ")
+    };
+    let row = |bits: usize| {
+        let (zero, one) = (beginning(2 * bits), beginning(2 * bits + 1));
+        format!("| {bits:03b} | {zero} | {one} |\n")
+    };
+    let table: String = (0..8).map(row).collect();
+    let readme = String::from_utf8(read("README.md")).expect("text");
+    assert!(readme.contains(&table), "not in the README:\n{table}");
+}
+
 #[test]
 fn blank_is_the_smallest_job() {
     let counts = example("blank").counts();
@@ -162,6 +190,32 @@ fn stale_searches_have_the_moment_of_the_change() {
         );
         assert!(moment < deleted && deleted < turns[1]);
     }
+}
+
+#[test]
+fn cards_spread_and_two_of_one_key_stay_together() {
+    use Code::{Deleted, Found, NoDepth, None, Stored};
+    let job = example("cards");
+    let mut run = Run::new(&job);
+    run.deal_all(&job.turns[..24]);
+    assert_eq!((run.waits, run.shared.tally.splits), (0, 0));
+    for number in 1..=4 {
+        let calls = run.shared.file.page(number).calls();
+        assert_eq!(calls.len(), 2, "page {number}");
+        assert!(calls.iter().all(|call| call % 256 == 5), "card 5 alone");
+    }
+    let pair = [141_231_736, 474_790_318];
+    assert_eq!(pseudo_key(pair[0]), pseudo_key(pair[1]));
+    run.deal_all(&job.turns[24..50]);
+    assert!(run.waits > 0, "the second of the two waits for the first");
+    assert_eq!(run.shared.tally.splits, 1);
+    assert_eq!(run.shared.file.page(2).calls(), pair);
+    run.deal_all(&job.turns[50..]);
+    assert_eq!(run.unfinished().count(), 0);
+    assert_eq!(codes(&run)[..6], [Stored; 6]);
+    let told = [NoDepth, Found, Deleted, None, Found, Stored];
+    assert_eq!(codes(&run)[6..], told);
+    assert_eq!(run.shared.file.page(2).calls(), [7, pair[0]]);
 }
 
 #[test]
@@ -312,6 +366,14 @@ fn month_is_at_the_limits_and_ends() {
     };
     assert_eq!(job.counts(), largest);
     assert_eq!(job.to_bytes().len(), 53_280);
+    let full = |number: usize| job.file.page(number).records.len() == 8;
+    assert!((1..=128).all(full), "to the brim");
+    let highest = job.file.holds().iter().map(|r| r.call).max();
+    assert_eq!(highest, Some(1520));
+    let call = |i: usize| job.operations[i].call;
+    assert_eq!((call(0), call(127)), (1521, 1784), "the first inserts");
+    assert_eq!(call(128 + 52), 1784, "the last search that finds its call");
+    assert!((249..256).all(|i| job.file.entry_of(call(i)) == 0));
     let run = dealt(&job);
     assert_eq!(run.shared.file.in_use, 256);
     assert_eq!(run.unfinished().count(), 0);
