@@ -2,9 +2,8 @@
 //! many bytes faults are gathered and not jumped on, so that the compiler can take many bytes at a time.
 
 use crate::bytes::{four_at, two_at};
-use crate::header::{by_length, Header};
-use crate::key::{low_bits, reversed};
-use crate::{exact, page, Refusal};
+use crate::header::{by_length, Header, JOB_VERSION};
+use crate::{exact, key, page, Refusal};
 
 /// Every row of the refusal table but 11.
 pub fn check(job: &[u8]) -> Result<(), Refusal> {
@@ -48,7 +47,7 @@ fn counts_sound(header: &Header) -> bool {
 /// Rows 2 and 4.
 #[inline(always)]
 fn offsets_sound(bytes: &[u8; 32], header: &Header, length: usize) -> bool {
-    (two_at(bytes, 0) == 1)
+    (two_at(bytes, 0) == JOB_VERSION)
         & (four_at(bytes, 12) == 32)
         & (four_at(bytes, 16) as usize == header.table_at())
         & (four_at(bytes, 20) as usize == header.operations_at())
@@ -104,7 +103,7 @@ fn pages_sound<const N: usize>(table: &[u8], directory: &[[u8; 2]], header: &Hea
         if !all_name(&directory[first..first + entries], (x + 1) as u16) {
             return false;
         }
-        if !records_sound(page, local, reversed(pattern as u8, local) as u32) {
+        if !records_sound(page, local, pattern as u32) {
             return false;
         }
     }
@@ -125,20 +124,41 @@ fn all_name(entries: &[[u8; 2]], page: u16) -> bool {
     other == 0
 }
 
-/// A page's records: their calls have these low bits, each is above the one before it, and behind the last all is zero.
+/// For each count of records, all ones for every record that is counted.
+static COUNTED: [[u64; 8]; 16] = masks();
+
+const fn masks() -> [[u64; 8]; 16] {
+    let mut masks = [[0; 8]; 16];
+    let mut place = 0;
+    while place < 16 * 8 {
+        let (count, i) = (place / 8, place % 8);
+        masks[count][i] = if i < count { u64::MAX } else { 0 };
+        place += 1;
+    }
+    masks
+}
+
+/// A page's records: their pseudo keys begin with its pattern, each call is above the one before it, and behind the last record all is zero. What does
+/// not count is masked out, since the counts of pages differ, and jumps that go by them would not be foreseen. Faults are gathered in two numbers, for
+/// the records are taken two at a time. Of a call less the one behind it the highest bit is 1 where they rise.
 #[inline(always)]
-fn records_sound<const N: usize>(page: &[u8; N], local: u32, low: u32) -> bool {
-    let (mut fault, mut behind) = (0, 0);
+fn records_sound<const N: usize>(page: &[u8; N], local: u32, pattern: u32) -> bool {
+    if page[1] == 0 {
+        return is_zero(&page[4..]);
+    }
+    let counted = &COUNTED[(page[1] & 15) as usize];
+    let wanted = key::as_first_bits(pattern, local) as u64;
+    let asked = !(u32::MAX >> (local & 31)) as u64;
+    let mut fault = [0; 2];
     for i in 0..page::room::<N>() {
         let record = page::record(page, i);
-        if i < page[1] as usize {
-            let call = record as u32;
-            fault |= low_bits(call ^ low, local);
-            let rises = i == 0 || call > page::record(page, i - 1) as u32;
-            fault |= !rises as u32;
-        } else {
-            behind |= record;
-        }
+        fault[i % 2] |= (key::of_record(record) ^ wanted) & asked & counted[i];
+        fault[i % 2] |= record & !counted[i];
     }
-    fault == 0 && behind == 0
+    let mut falls = 0;
+    for i in 1..page::room::<N>() {
+        let call = |i: usize| page::record(page, i) & 0xffff_ffff;
+        falls |= !call(i - 1).wrapping_sub(call(i)) & counted[i];
+    }
+    fault[0] | fault[1] == 0 && falls >> 63 == 0
 }

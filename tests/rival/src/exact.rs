@@ -1,7 +1,8 @@
 //! Number and place of a refusal, row by row in the order in which they are tried: only for jobs that the quick check does not accept, so not tuned.
 
 use crate::bytes::{four_at, two_at};
-use crate::header::{Header, HEADER_LENGTH, OPERATION_LENGTH, TURN_LENGTH};
+use crate::header::{Header, HEADER_LENGTH, JOB_VERSION, OPERATION_LENGTH, TURN_LENGTH};
+use crate::key::{first_bits, pseudo_key};
 use crate::Refusal;
 
 /// The lowest place at which a row meets the job, if it does. No row that is tried before it meets the job.
@@ -18,7 +19,7 @@ pub fn refusal(job: &[u8]) -> Refusal {
     let Some(bytes) = job.first_chunk() else {
         return (1, job.len());
     };
-    if two_at(job, 0) != 1 {
+    if two_at(job, 0) != JOB_VERSION {
         return (2, 0);
     }
     let header = Header::read(bytes);
@@ -121,8 +122,8 @@ fn record(job: &[u8], header: &Header) -> Option<usize> {
         let page = page_bytes(job, header, x);
         let call = |i: usize| four_at(page, 4 + 8 * i);
         let begins = |i: usize| {
-            let pseudo_key = call(i).reverse_bits() as u64;
-            pseudo_key >> (32 - page[0] as u32) == two_at(page, 2) as u64
+            let first = first_bits(pseudo_key(call(i)), page[0] as u32);
+            first == two_at(page, 2) as u32
         };
         let rises = |i: usize| i == 0 || call(i - 1) < call(i);
         let wrong = |i: &usize| !begins(*i) || !rises(*i);

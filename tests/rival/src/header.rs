@@ -2,6 +2,8 @@
 
 use crate::bytes::two_at;
 
+/// Of jobs, and of charge files, which are jobs.
+pub const JOB_VERSION: u16 = 2;
 pub const HEADER_LENGTH: usize = 32;
 pub const OPERATION_LENGTH: usize = 10;
 pub const TURN_LENGTH: usize = 2;
@@ -66,7 +68,8 @@ impl Header {
     pub fn write(&self, out: &mut [u8]) {
         let head: &mut [u8; HEADER_LENGTH] = out.first_chunk_mut().unwrap();
         let counts = [self.pages, self.in_use, self.operations, self.turns];
-        head[..4].copy_from_slice(&[1, 0, self.depth as u8, self.capacity as u8]);
+        head[..2].copy_from_slice(&JOB_VERSION.to_le_bytes());
+        head[2..4].copy_from_slice(&[self.depth as u8, self.capacity as u8]);
         for (k, count) in counts.into_iter().enumerate() {
             head[4 + 2 * k..][..2].copy_from_slice(&(count as u16).to_le_bytes());
         }

@@ -1,5 +1,6 @@
 //! The turns of an insert or a delete on the page that it locks. Each gives whether the operation is finished.
 
+use crate::key::as_first_bits;
 use crate::operation::{Operation, DECIDE, DELETE, RELEASE, UNLOCK, VERIFY, WRITE_NEW, WRITE_PAGE};
 use crate::page;
 use crate::result::{ABSENT, ALREADY_THERE, DELETED, DIFFERS, NO_DEPTH, NO_PAGE, STORED};
@@ -64,11 +65,18 @@ impl<const N: usize> Shared<'_, '_, N> {
         false
     }
 
-    /// The page is full: how many leading bits all its records share with the call settles how many new pages there are.
+    /// The page is full: how many leading bits all its records share with the call settles how many new pages there are. Of the call's pseudo key the
+    /// first g bits are known; what its differences from the records have behind them does not count.
     #[inline(always)]
     fn decide_split(&mut self, operation: &mut Operation) {
         let page = &self.file.pages[operation.row.page as usize];
-        let shared = page::shared_bits(page, operation.call());
+        let key = as_first_bits(operation.row.home as u32, self.depth);
+        let differences = page::differences(page, key);
+        let behind = 1 << (31 - self.depth);
+        let shared = differences
+            .iter()
+            .fold(behind, |all, one| all | one)
+            .leading_zeros();
         let count = shared + 1 - page[0] as u32;
         if shared >= self.depth {
             return self.give_up(operation, NO_DEPTH);
@@ -81,6 +89,7 @@ impl<const N: usize> Shared<'_, '_, N> {
         }
         operation.row.base = self.file.in_use as u8;
         operation.row.count = count as u8;
+        operation.row.along = page::along(&differences, shared);
         operation.row.next = 0;
         self.file.in_use += count;
         *operation.stage = WRITE_NEW;

@@ -1,27 +1,37 @@
-//! Pseudo keys. A depth is at most 8, so their first 8 bits are all that matters, and those are the call's low byte reversed.
+//! Pseudo keys: FNV-1a, 32 bits, of a call's four bytes, lowest first. A depth is at most 8, so only their first 8 bits matter; but those come from
+//! all bits of the products before.
+//!
+//! A key, or its first bits with zeros behind them, is a number of 32 bits: two share as many leading bits as their exclusive-or has leading zeros.
 
-/// Every byte with its bits reversed: to look this up takes fewer instructions than to do it.
-static REVERSED: [u8; 256] = reversed_bytes();
+const START: u64 = 2_166_136_261;
+const PRIME: u64 = 16_777_619;
 
-const fn reversed_bytes() -> [u8; 256] {
-    let mut table = [0; 256];
-    let mut byte = 0;
-    while byte < 256 {
-        table[byte] = (byte as u8).reverse_bits();
-        byte += 1;
+/// The pseudo key of the call in a record's low half, in the low half of what is given; the high half is left over from the last product. Each product
+/// is one of two low halves and has 64 bits: there is an instruction for two of these at a time, and none for products of 32 bits.
+#[inline(always)]
+pub fn of_record(record: u64) -> u64 {
+    let mut key = START;
+    for k in 0..4 {
+        let byte = record >> (8 * k) & 255;
+        key = ((key ^ byte) & 0xffff_ffff) * PRIME;
     }
-    table
+    key
 }
 
-/// The first `depth` bits (at most 8) of the pseudo key of a call with this low byte; and so also, of a pattern with that many bits,
-/// the low bits of the calls that belong to it.
+/// The pseudo key of a call.
 #[inline(always)]
-pub fn reversed(low: u8, depth: u32) -> u8 {
-    ((REVERSED[low as usize] as u32) >> ((8 - depth) & 31)) as u8
+pub fn pseudo_key(call: u32) -> u32 {
+    of_record(call as u64) as u32
 }
 
-/// The low bits of a call, as many as `depth`: they say which page of that depth it belongs to.
+/// The first bits of a key, at most 8, as a number.
 #[inline(always)]
-pub fn low_bits(call: u32, depth: u32) -> u32 {
-    call & ((1 << (depth & 31)) - 1)
+pub fn first_bits(key: u32, depth: u32) -> u32 {
+    key >> 24 >> ((8 - depth) & 31)
+}
+
+/// A number of `depth` bits, at most 8, as the first bits of a key.
+#[inline(always)]
+pub fn as_first_bits(number: u32, depth: u32) -> u32 {
+    number << ((32 - depth) & 31)
 }

@@ -14,7 +14,7 @@ pub struct Row {
     pub told: u8,
     /// The page it reads, waits for or holds.
     pub page: u8,
-    /// The call's own entry.
+    /// The call's own entry: the first bits of its pseudo key, and all of them that later turns need.
     pub home: u8,
     /// The page just read in its entry; in a split, the first new page.
     pub base: u8,
@@ -22,8 +22,8 @@ pub struct Row {
     pub count: u8,
     /// The record to delete; in a split, the new page or the entry to write.
     pub next: u8,
-    /// Never read: a row with no gap in it is all zero bytes where it is not begun, and so the lent rows are cleared faster.
-    pub spare: u8,
+    /// In a split, which records of the old page go along with the call to the end, a bit for each.
+    pub along: u8,
 }
 
 /// What an operation does on its next turn, as the definitions name it.

@@ -1,6 +1,8 @@
 //! A page's bytes: local depth, count, pattern, records. A record is taken as one number of 8 bytes, with the call in its low half.
 //! Records stand by rising call.
 
+use crate::key;
+
 /// How many records a page of this length takes.
 #[inline(always)]
 pub const fn room<const N: usize>() -> usize {
@@ -34,14 +36,24 @@ pub fn find<const N: usize>(page: &[u8; N], call: u32) -> Option<usize> {
     (found != 0).then_some(found.trailing_zeros() as usize)
 }
 
-/// How many leading bits the pseudo keys of all records of a full page share with the call's, which is not in it.
+/// The pseudo keys of a full page's records, each with the bits that it shares with this one zero. Behind the last record there are zeros.
 #[inline(always)]
-pub fn shared_bits<const N: usize>(page: &[u8; N], call: u32) -> u32 {
-    let mut differ = 0;
-    for i in 0..room::<N>() {
-        differ |= record(page, i) as u32 ^ call;
+pub fn differences<const N: usize>(page: &[u8; N], key: u32) -> [u32; 8] {
+    let mut differences = [0; 8];
+    for (i, difference) in differences.iter_mut().take(room::<N>()).enumerate() {
+        *difference = key::of_record(record(page, i)) as u32 ^ key;
     }
-    differ.trailing_zeros()
+    differences
+}
+
+/// Which of these differences have a zero behind so many bits, a bit for each.
+#[inline(always)]
+pub fn along(differences: &[u32; 8], shared: u32) -> u8 {
+    let mut along = 0;
+    for (i, difference) in differences.iter().enumerate() {
+        along |= (!difference >> ((31 - shared) & 31) & 1) << i;
+    }
+    along as u8
 }
 
 /// Puts a record before the first with a higher call; the page has room. The higher ones move up from the last on: calls run on one by one, so

@@ -1,44 +1,57 @@
 //! What the splits of a full page leave: pieces, each worked out from the old page alone on the turn that writes it. Nobody else writes
 //! the old page meanwhile, since it is locked.
 //!
-//! Each split cuts the page that would take the call, by the next bit: the page that is split keeps bit 0, a new page gets bit 1.
+//! Each split cuts the page that would take the call, by the next bit: the page that is split keeps bit 0, a new page gets bit 1. All records go
+//! along with the call up to the last split, which is the first to part them: of the pieces two have records, and the others are empty.
 
-use crate::key::{low_bits, reversed};
+use crate::key::{as_first_bits, first_bits};
 use crate::page::{put_record, record, room};
 
-/// A piece: the calls whose low `depth` bits are `low`. `own`: it is the page that the call goes to.
+/// A piece. `holds`: which records of the old page it has, a bit for each. `own`: it is the page that the call goes to.
 #[derive(Clone, Copy)]
 pub struct Piece {
-    pub depth: u32,
-    pub low: u32,
+    depth: u32,
+    pattern: u32,
+    holds: u8,
     own: bool,
 }
 
 /// An insert into a full page of local depth `from`, with splits up to depth `end`.
 #[derive(Clone, Copy)]
 pub struct Splits {
-    pub call: u32,
+    /// The first bits of the call's pseudo key, as many as the directory's depth, with zeros behind them.
+    pub key: u32,
     pub from: u32,
     pub end: u32,
+    /// Which records of the old page go along with the call at the last split too, a bit for each.
+    pub along: u8,
 }
 
 impl Splits {
     /// What is left of a page that would take the call at depth `from`. It keeps bit 0, so the call leaves it at its first bit 1.
     #[inline(always)]
     fn left(self, from: u32) -> Piece {
-        let leaves = from + (self.call >> (from & 31)).trailing_zeros();
+        let leaves = from + (self.key << (from & 31) | 1).leading_zeros();
         if leaves < self.end {
-            Piece {
-                depth: leaves + 1,
-                low: low_bits(self.call, leaves),
-                own: false,
-            }
-        } else {
-            Piece {
-                depth: self.end,
-                low: low_bits(self.call, self.end),
-                own: true,
-            }
+            return self.parted(leaves);
+        }
+        Piece {
+            depth: self.end,
+            pattern: first_bits(self.key, self.end),
+            holds: self.along,
+            own: true,
+        }
+    }
+
+    /// The half that the call does not go to, of a page of this depth.
+    #[inline(always)]
+    fn parted(self, depth: u32) -> Piece {
+        let last = depth + 1 == self.end;
+        Piece {
+            depth: depth + 1,
+            pattern: first_bits(self.key, depth + 1) ^ 1,
+            holds: if last { !self.along } else { 0 },
+            own: false,
         }
     }
 
@@ -52,23 +65,21 @@ impl Splits {
     #[inline(always)]
     pub fn new_piece(self, i: u32) -> Piece {
         let depth = self.from + i;
-        if (self.call >> (depth & 31)) & 1 == 1 {
-            return self.left(depth + 1);
-        }
-        Piece {
-            depth: depth + 1,
-            low: low_bits(self.call, depth) | 1 << (depth & 31),
-            own: false,
+        if first_bits(self.key, depth + 1) & 1 == 1 {
+            self.left(depth + 1)
+        } else {
+            self.parted(depth)
         }
     }
 
-    /// Which new page, from 0, takes the calls with these low bits, where it is not the old one. As far as their bits are the call's, each bit 1 leads on
-    /// to a new page, and so does a bit 1 where they part: the last bit 1 up to there tells the page.
+    /// Which new page, from 0, this entry is to name, where it is not the old one. As far as its bits are the call's, each bit 1 leads on to a new page, and
+    /// so does a bit 1 where they part: the last bit 1 up to there tells the page.
     #[inline(always)]
-    pub fn new_page(self, low: u32) -> u32 {
-        let parted = (low ^ self.call).trailing_zeros() + 1;
+    pub fn new_page(self, entry: u8, global: u32) -> u32 {
+        let bits = as_first_bits(entry as u32, global);
+        let parted = (bits ^ self.key | 1).leading_zeros() + 1;
         let last = parted.min(self.end);
-        31 - (low_bits(low, last) >> (self.from & 31)).leading_zeros()
+        last - 1 - first_bits(bits, last).trailing_zeros() - self.from
     }
 }
 
@@ -76,8 +87,7 @@ impl Piece {
     /// The first entry behind those that the piece's pattern begins.
     #[inline(always)]
     pub fn next_entry(self, global: u32) -> u32 {
-        let pattern = reversed(self.low as u8, self.depth) as u32;
-        (pattern + 1) << ((global - self.depth) & 31)
+        (self.pattern + 1) << ((global - self.depth) & 31)
     }
 
     /// The piece's page: those records of the full old page that belong to it, in their order, and the insert's own at its place among
@@ -88,9 +98,8 @@ impl Piece {
         let mut stay = [0u64; 16];
         let mut count = 0;
         for i in 0..room::<N>() {
-            let record = record(old, i);
-            stay[count & 15] = record;
-            count += (low_bits(record as u32, self.depth) == self.low) as usize;
+            stay[count & 15] = record(old, i);
+            count += (self.holds >> i & 1) as usize;
         }
         let mut at = count;
         while self.own && at > 0 && stay[(at - 1) & 15] as u32 > own as u32 {
@@ -102,7 +111,7 @@ impl Piece {
         let mut page = [0; N];
         page[0] = self.depth as u8;
         page[1] = count as u8;
-        page[2] = reversed(self.low as u8, self.depth);
+        page[2] = self.pattern as u8;
         for (i, record) in stay.into_iter().take(room::<N>()).enumerate() {
             put_record(&mut page, i, record);
         }

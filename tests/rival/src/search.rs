@@ -1,6 +1,6 @@
 //! The first turn of every operation, and the turns of a search. Each gives whether the operation is finished.
 
-use crate::key::reversed;
+use crate::key::{first_bits, pseudo_key};
 use crate::operation::{Operation, READ_PAGE, REREAD, SEARCH};
 use crate::page;
 use crate::result::{FOUND, NONE};
@@ -11,7 +11,7 @@ impl<const N: usize> Shared<'_, '_, N> {
     #[inline(always)]
     pub fn begin(&mut self, operation: &mut Operation) -> bool {
         self.begun += 1;
-        operation.row.home = reversed(operation.bytes[2], self.depth);
+        operation.row.home = first_bits(pseudo_key(operation.call()), self.depth) as u8;
         operation.row.page = self.file.directory[operation.row.home as usize];
         if operation.kind() == SEARCH {
             *operation.stage = READ_PAGE;
