@@ -1,11 +1,14 @@
 //! The tuned rival (tests/rival) against the tests' own implementation: a ratio to it says something only as long as it does the whole work.
-//! Refusals, result bytes and every lent buffer afterwards: every vector, random jobs and damaged ones.
+//! Refusals, result bytes and every lent buffer afterwards: every vector, random jobs and damaged ones; by hand, the deepest splits, and two calls that
+//! no split parts.
 
 use chargefile_tests::answer::CODES;
 use chargefile_tests::check::{least_lent, WORKING_MEMORY};
 use chargefile_tests::damage::{fault, scribble, NUMBERS};
 use chargefile_tests::file::ChargeFile;
-use chargefile_tests::job::{Job, Kind, Operation};
+use chargefile_tests::job::{Job, Kind, Operation, JOB_VERSION};
+use chargefile_tests::key::{call_with, pseudo_key};
+use chargefile_tests::little_endian::two_at;
 use chargefile_tests::make;
 use chargefile_tests::page::Record;
 use chargefile_tests::random::Random;
@@ -31,7 +34,7 @@ const OTHER_ROW: Row = Row {
     base: 0x5A,
     count: 0x5A,
     next: 0x5A,
-    spare: 0x5A,
+    along: 0x5A,
 };
 
 /// What a run is lent, filled with a pattern beforehand.
@@ -211,12 +214,13 @@ fn too_little_lent() {
     assert!(jobs > 0, "no job with an operation");
 }
 
-/// An insert splits the one page; all other operations search for a call that moves. They begin before, and read the old page after their entry was
+/// An insert splits the one page; all other operations search for call 3, which moves: its pseudo key has the bit 1 for its first, as call 5's has, and
+/// call 0's the bit 0. They begin before, and read the old page after their entry was
 /// changed: all have that turn for their moment, and the last to read comes first in the log. No more lines can be out of order.
 #[test]
 fn a_log_that_comes_backwards() {
     let mut file = ChargeFile::empty(1, 2, 2);
-    for call in [2, 3] {
+    for call in [0, 3] {
         file.page_mut(1).records.push(Record { call, charge: 7 });
     }
     let search = Operation {
@@ -246,5 +250,94 @@ fn a_log_that_comes_backwards() {
     for (i, line) in log.chunks(4).enumerate() {
         assert_eq!(line[..2], changed.to_le_bytes());
         assert_eq!(line[2..], (i as u16).to_le_bytes());
+    }
+}
+
+/// A file of depth 8 with one page, which is full of these calls, and 255 more.
+fn one_full_page(calls: &[u32]) -> ChargeFile {
+    let mut file = ChargeFile::empty(8, calls.len(), 256);
+    for &call in calls {
+        let charge = call / 3;
+        *file.page_mut(1) = file.page(1).add(Record { call, charge });
+    }
+    file
+}
+
+/// The operations one after another, each with so many turns: their codes, and the turns that each has used.
+fn one_by_one(file: ChargeFile, told: &[(Kind, u32)], each: usize) -> Vec<(u8, usize)> {
+    let operation = |(kind, call): &(Kind, u32)| Operation {
+        kind: *kind,
+        call: *call,
+        charge: if *kind == Kind::Insert { 9 } else { 0 },
+    };
+    let job = Job {
+        file,
+        operations: told.iter().map(operation).collect(),
+        turns: (0..told.len() * each).map(|t| t / each).collect(),
+    };
+    let Outcome::Done { result } = agree(&job.to_bytes(), ENOUGH) else {
+        panic!("a job that meets no row is run");
+    };
+    let answers = answer_bytes(&result, told.len());
+    let code_and_used = |answer: &[u8]| (answer[0], two_at(answer, 2));
+    answers.map(code_and_used).collect()
+}
+
+/// As deep as can be, along every pattern of 8 bits: all records but one have the call's own pattern, that one's differs in the last bit. 8 new pages; the
+/// old one keeps the entries behind which the call has left it, with its first bit 1, or, where there is none before the last, a single one.
+#[test]
+fn the_deepest_splits() {
+    for pattern in 0..256u32 {
+        let kept = (pattern | 1).leading_zeros() - 24;
+        let changed = 256 - (128 >> kept);
+        for capacity in 1..=8 {
+            let calls: Vec<u32> = (0..capacity)
+                .map(|r| call_with(pattern ^ u32::from(r == 0), 8, r << 8))
+                .collect();
+            let own = call_with(pattern, 8, 9 << 8);
+            let told = [(Kind::Insert, own), (Kind::Search, own)];
+            let stored = (3, 7 + 8 + changed);
+            let wanted = vec![stored, (1, 2)];
+            assert_eq!(one_by_one(one_full_page(&calls), &told, 280), wanted);
+        }
+    }
+}
+
+/// Two calls with one pseudo key: no depth parts them, but in a page that has room they stand beside each other, and go along with each other.
+#[test]
+fn two_calls_of_one_key() {
+    let (one, other) = (474_790_318, 141_231_736);
+    assert_eq!(pseudo_key(one), pseudo_key(other));
+    let told = [
+        (Kind::Insert, other),
+        (Kind::Search, other),
+        (Kind::Search, one),
+        (Kind::Delete, one),
+        (Kind::Insert, other),
+        (Kind::Insert, one),
+        (Kind::Search, other),
+    ];
+    let codes = [7, 2, 1, 5, 3, 7, 1];
+    let come_to = one_by_one(one_full_page(&[one]), &told, 6);
+    assert!(come_to.iter().map(|(code, _)| *code).eq(codes));
+    // 01000111 begins their key: page 1 keeps a quarter of the entries
+    let near = call_with(0b0100_0110, 8, 0);
+    let told = [(Kind::Insert, near), (Kind::Search, one)];
+    let wanted = vec![(3, 7 + 8 + 192), (1, 2)];
+    let come_to = one_by_one(one_full_page(&[one, other]), &told, 280);
+    assert_eq!(come_to, wanted);
+}
+
+/// Each is refused, and no other row is tried.
+#[test]
+fn every_other_version() {
+    let mut job = sized(8, 8, 1, 1, 1);
+    let refused = Outcome::Refused {
+        number: 2,
+        place: 0,
+    };
+    for version in (0..=u16::MAX).filter(|version| usize::from(*version) != JOB_VERSION) {
+        job[..2].copy_from_slice(&version.to_le_bytes());
+        assert_eq!(agree(&job, ENOUGH), refused);
     }
 }

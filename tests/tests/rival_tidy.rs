@@ -1,15 +1,18 @@
-//! The tidying of the tuned rival (tests/rival) against the tests' own: what it writes and what it refuses, on files made by hand, random files and
-//! damaged ones.
+//! The tidying of the tuned rival (tests/rival) against the tests' own: what it writes and what it refuses, on every vector, on files made by hand,
+//! random files and damaged ones.
+
+use std::ops::Range;
 
 use chargefile_tests::damage::{fault, scribble, NUMBERS};
 use chargefile_tests::file::ChargeFile;
 use chargefile_tests::job::{Job, Kind, Operation};
-use chargefile_tests::key::call_with;
+use chargefile_tests::key::{call_with, pseudo_key};
 use chargefile_tests::make;
 use chargefile_tests::page::{Page, Record};
 use chargefile_tests::random::Random;
 use chargefile_tests::seeds::each_seed;
 use chargefile_tests::tally::Tally;
+use chargefile_tests::vectors;
 use chargefile_tests::{check, tidy, Outcome};
 
 /// Enough for every charge file, and more.
@@ -46,6 +49,14 @@ fn at_every_depth(file: &[u8], tally: &mut Tally) {
                 tally.count(0);
             }
         }
+    }
+}
+
+#[test]
+fn every_vector() {
+    for vector in vectors::to_be_tidied() {
+        let outcome = tidied(&vector.file, vector.depth, vector.room);
+        assert_eq!(outcome, vector.wanted, "{}", vector.name);
     }
 }
 
@@ -121,19 +132,19 @@ fn comes_to(file: &[u8], depth: u64, wanted: Vec<u8>) {
 
 #[test]
 fn tidied_by_hand() {
-    let thin: [Told; 4] = [(2, 3, &[3]), (2, 1, &[2]), (2, 2, &[1, 5]), (2, 0, &[4])];
-    let joined = [1, 2, 3, 4, 5];
+    let thin: [Told; 4] = [(2, 3, &[1]), (2, 1, &[7]), (2, 2, &[3, 5]), (2, 0, &[4])];
+    let joined = [1, 3, 4, 5, 7];
     let file = file_of(2, 5, 6, &thin);
     comes_to(&file, 2, file_of(2, 5, 6, &[(0, 0, &joined)]));
     comes_to(&file, 0, file_of(0, 5, 6, &[(0, 0, &joined)]));
-    let left: [Told; 2] = [(1, 0, &[2, 4]), (1, 1, &[1, 3, 5])];
+    let left: [Told; 2] = [(1, 0, &[4, 7]), (1, 1, &[1, 3, 5])];
     comes_to(&file_of(2, 4, 4, &thin), 1, file_of(1, 4, 4, &left));
-    let left: [Told; 3] = [(1, 0, &[2, 4]), (2, 2, &[1, 5]), (2, 3, &[3])];
+    let left: [Told; 3] = [(1, 0, &[4, 7]), (2, 2, &[3, 5]), (2, 3, &[1])];
     comes_to(&file_of(2, 2, 4, &thin), 8, file_of(8, 2, 4, &left));
-    let uneven: [Told; 3] = [(2, 2, &[1]), (1, 0, &[2]), (2, 3, &[3, 7])];
-    let left: [Told; 3] = [(1, 0, &[2]), (2, 2, &[1]), (2, 3, &[3, 7])];
+    let uneven: [Told; 3] = [(2, 2, &[3]), (1, 0, &[4]), (2, 3, &[1, 2])];
+    let left: [Told; 3] = [(1, 0, &[4]), (2, 2, &[3]), (2, 3, &[1, 2])];
     comes_to(&file_of(3, 2, 3, &uneven), 2, file_of(2, 2, 3, &left));
-    let all = [2, 4, 6, 8, 10, 12, 14, 16];
+    let all = [4, 7, 9, 10, 11, 13, 14, 16];
     let first_full: [Told; 2] = [(1, 0, &all), (1, 1, &[])];
     comes_to(
         &file_of(1, 8, 2, &first_full),
@@ -142,9 +153,17 @@ fn tidied_by_hand() {
     );
 }
 
+/// So many calls under each of these patterns of 8 bits, all of them by rising number.
+fn calls_under(patterns: Range<u32>, records: u32) -> Vec<u32> {
+    let under = |p: u32| (0..records).map(move |r| call_with(p, 8, r << 8));
+    let mut calls: Vec<u32> = patterns.flat_map(under).collect();
+    calls.sort();
+    calls
+}
+
 /// 256 pages with so many records each, the last pattern first.
 fn large(records: u32) -> Vec<u8> {
-    let calls = |p: u32| -> Vec<u32> { (0..records).map(|r| call_with(p, 8, r)).collect() };
+    let calls = |p: u32| calls_under(p..p + 1, records);
     let pages: Vec<(u32, Vec<u32>)> = (0..256).rev().map(|p| (p, calls(p))).collect();
     let told: Vec<Told> = pages.iter().map(|(p, calls)| (8, *p, &calls[..])).collect();
     file_of(8, 8, 256, &told)
@@ -156,14 +175,7 @@ fn tidied_at_the_limits() {
     for (records, depth) in [(0, 0), (1, 5), (2, 6), (4, 7), (5, 8), (8, 8)] {
         let file = large(records);
         let per_page = 1 << (8 - depth);
-        let calls = |p: u32| {
-            let parts = (0..per_page).flat_map(|q| (0..records).map(move |r| (q, r)));
-            let mut calls: Vec<u32> = parts
-                .map(|(q, r)| call_with(p * per_page + q, 8, r))
-                .collect();
-            calls.sort();
-            calls
-        };
+        let calls = |p: u32| calls_under(p * per_page..(p + 1) * per_page, records);
         let pages: Vec<Vec<u32>> = (0..1 << depth).map(calls).collect();
         let told = (0..).zip(&pages).map(|(p, calls)| (depth, p, &calls[..]));
         let told: Vec<Told> = told.collect();
@@ -178,6 +190,21 @@ fn tidied_at_the_limits() {
             assert_eq!(tidied(&file, wanted, ENOUGH), refused);
         }
     }
+}
+
+/// Two calls with one pseudo key stay together, whatever is joined with them.
+#[test]
+fn two_calls_of_one_key() {
+    let (one, other) = (474_790_318, 141_231_736);
+    assert_eq!(pseudo_key(one), pseudo_key(other));
+    let deep: [Told; 3] = [(2, 1, &[other, one]), (1, 1, &[1]), (2, 0, &[4])];
+    let joined = [1, 4, other, one];
+    let file = file_of(2, 4, 3, &deep);
+    comes_to(&file, 8, file_of(8, 4, 3, &[(0, 0, &joined)]));
+    let left: [Told; 2] = [(1, 0, &[4, other, one]), (1, 1, &[1])];
+    comes_to(&file_of(2, 3, 3, &deep), 1, file_of(1, 3, 3, &left));
+    let left: [Told; 3] = [(2, 0, &[4]), (2, 1, &[other, one]), (1, 1, &[1])];
+    comes_to(&file_of(2, 2, 3, &deep), 3, file_of(3, 2, 3, &left));
 }
 
 /// The job's own refusal, then 18, then 19, then 11.
@@ -200,7 +227,7 @@ fn tidying_refused() {
     job[last] = 1;
     assert_eq!(tidied(&job, 9, 0), refused(10, last as u32));
     assert_eq!(tidied(&[], 9, 0), refused(1, 0));
-    let file = file_of(1, 1, 2, &[(1, 0, &[2]), (1, 1, &[3])]);
+    let file = file_of(1, 1, 2, &[(1, 0, &[4]), (1, 1, &[3])]);
     assert_eq!(tidied(&file, 9, 0), refused(19, 0));
     assert_eq!(tidied(&file, 0, 0), refused(19, 0));
     assert_eq!(tidied(&file, 1, 0), refused(11, 0));
