@@ -2,7 +2,7 @@
 
 use chargefile_tests::file::ChargeFile;
 use chargefile_tests::job::{Job, Kind, Operation, MAX_OPERATIONS, MAX_PAGES, MAX_TURNS};
-use chargefile_tests::key::call_with;
+use chargefile_tests::key;
 use chargefile_tests::page::{Page, Record};
 use chargefile_tests::random::Random;
 use chargefile_tests::run::Run;
@@ -29,17 +29,16 @@ impl Even {
         }
     }
 
-    /// The file, with what stands above the pattern's bits in the call of record i.
-    pub fn file_with(self, mut rest: impl FnMut(u32) -> u32) -> ChargeFile {
+    /// The file, with the call of record i of the page that has a pattern.
+    pub fn file_with(self, mut call: impl FnMut(u32, u32) -> u32) -> ChargeFile {
         let in_use = 1 << self.local;
         let mut pages = vec![Page::default(); self.pages];
         for (pattern, page) in (0..in_use as u32).zip(&mut pages) {
             (page.depth, page.pattern) = (self.local, pattern);
             for i in 0..self.records as u32 {
-                *page = page.add(Record {
-                    call: call_with(pattern, self.local, rest(i)),
-                    charge: 7 * i + pattern,
-                });
+                let (call, charge) = (call(pattern, i), 7 * i + pattern);
+                assert!(page.find(call).is_none(), "call {call} is there already");
+                *page = page.add(Record { call, charge });
             }
         }
         ChargeFile {
@@ -54,8 +53,25 @@ impl Even {
     }
 
     pub fn file(self) -> ChargeFile {
-        self.file_with(|i| i << 8)
+        self.file_with(|pattern, i| held(pattern, self.local, i))
     }
+}
+
+/// The first call from a number on whose pseudo key begins with a pattern of so many bits. One call in 2^local does, so it is not far off.
+pub fn call_from(pattern: u32, local: u32, number: u32) -> u32 {
+    let belongs = |call: &u32| key::index(*call, local) == pattern as usize;
+    let found = (number..=u32::MAX).find(belongs);
+    found.expect("the number is not among the last")
+}
+
+/// The call of record i, from 0, of an even file's page. The calls rise with their records.
+pub fn held(pattern: u32, local: u32, i: u32) -> u32 {
+    call_from(pattern, local, (i + 1) << 24)
+}
+
+/// A call that belongs in the page and is missing: it goes behind the first i records.
+pub fn missing(pattern: u32, local: u32, i: u32) -> u32 {
+    call_from(pattern, local, i << 24 | 1 << 23)
 }
 
 /// A job with no turns.
@@ -97,10 +113,11 @@ pub fn contended() -> Job {
         pages: 4,
         local: 1,
         records: 4,
-    };
+    }
+    .file_with(|pattern, i| call_from(pattern, 1, 8 * i));
     let kinds = [Kind::Search, Kind::Insert, Kind::Insert, Kind::Delete];
     let any = |i: usize| operation(kinds[i % 4], random.below(32) as u32);
-    let mut job = without_turns(file.file_with(|i| i), (0..64).map(any).collect());
+    let mut job = without_turns(file, (0..64).map(any).collect());
     let mut run = Run::new(&job);
     while run.unfinished().next().is_some() {
         let mut round: Vec<usize> = run.unfinished().collect();
@@ -121,7 +138,8 @@ pub fn full(seed: u64) -> Job {
         capacity,
         ..Even::large(random.below(7) as u32, random.below(capacity + 1))
     };
-    let file = shape.file_with(|i| random.word() << 3 | i);
+    let file =
+        shape.file_with(|pattern, i| call_from(pattern, shape.local, i << 28 | random.word() >> 4));
     let held = file.holds();
     let operations = (0..MAX_OPERATIONS).map(|_| {
         let kinds = [Kind::Search, Kind::Insert, Kind::Insert, Kind::Delete];

@@ -1,6 +1,6 @@
 //! The library's time as a ratio to the tuned rival's (tests/rival): both built for release, alternating in one process, the best of many.
 //! `cargo bench --offline`. No test: it prints, and asserts nothing about time, only that both come to the same bytes for every job that is measured, and
-//! in `turns` that each turn is a step, waits or is idle as it is called.
+//! in `turns` and `depths` that each turn is a step, waits or is idle as it is called.
 
 mod bytes;
 mod calls;

@@ -2,13 +2,12 @@
 //! the log, are in it.
 
 use chargefile_tests::job::{Job, Kind};
-use chargefile_tests::key::call_with;
 use chargefile_tests::random::Random;
 use chargefile_tests::run::Run;
 use chargefile_tests::turn::Turned;
 
 use crate::calls::Call;
-use crate::jobs::{operation, rounds, without_turns, Even};
+use crate::jobs::{held, missing, operation, rounds, without_turns, Even};
 use crate::measure::difference;
 use crate::table;
 
@@ -71,8 +70,8 @@ impl Sample {
 
 fn samples() -> [Sample; 7] {
     [
-        Sample::steps("search, found", searches(held), 2),
-        Sample::steps("search, none", searches(missing), 3),
+        Sample::steps("search, found", searches(0), 2),
+        Sample::steps("search, none", searches(8), 3),
         Sample::steps("insert, no split", inserts(), 6),
         Sample::steps("delete", deletes(), 6),
         Sample::steps("insert, one split", splits(), 12),
@@ -81,39 +80,29 @@ fn samples() -> [Sample; 7] {
     ]
 }
 
-/// The call of record k in page p of the even file with 32 pages.
-fn held(p: u32, k: u32) -> u32 {
-    call_with(p, 5, k << 8)
-}
-
-fn missing(p: u32, k: u32) -> u32 {
-    call_with(p, 5, k << 8 | 1 << 20)
-}
-
-/// 256 searches over 32 full pages.
-fn searches(call: fn(u32, u32) -> u32) -> Job {
-    let search = |i: u32| operation(Kind::Search, call(i % 32, i / 32));
+/// 256 searches over 32 full pages: for their records from number `first` on. From 8 on there are none, and the calls are above all that are there.
+fn searches(first: u32) -> Job {
+    let search = |i: u32| operation(Kind::Search, held(i % 32, 5, first + i / 32));
     without_turns(Even::large(5, 8).file(), (0..256).map(search).collect())
 }
 
 /// 256 inserts, each into a page of its own that is half full, at every place in it.
 fn inserts() -> Job {
-    let file = Even::large(8, 4).file_with(|i| (i + 1) << 8);
-    let insert = |p| operation(Kind::Insert, call_with(p, 8, (p / 7 % 5) << 8 | 1));
-    without_turns(file, (0..256).map(insert).collect())
+    let insert = |p| operation(Kind::Insert, missing(p, 8, p / 7 % 5));
+    without_turns(Even::large(8, 4).file(), (0..256).map(insert).collect())
 }
 
 /// 256 deletes, each from a full page of its own, from every place in it.
 fn deletes() -> Job {
-    let delete = |p| operation(Kind::Delete, call_with(p, 8, (p / 7 % 8) << 8));
+    let delete = |p| operation(Kind::Delete, held(p, 8, p / 7 % 8));
     without_turns(Even::large(8, 8).file(), (0..256).map(delete).collect())
 }
 
 /// 32 inserts, each into a full page of its own, which is split in halves: 4 of its 8 entries change. Half of the calls stay in the old page. Each goes
 /// behind 0 to 4 of the 4 records of its half.
 fn splits() -> Job {
-    let file = Even::large(5, 8).file_with(|i| i & 1 | 1 << 4 | (i / 2) << 5);
-    let insert = |p| operation(Kind::Insert, call_with(p, 5, p & 1 | (p / 2 % 5) << 5));
+    let file = Even::large(5, 8).file_with(|p, i| held(2 * p + i % 2, 6, i / 2));
+    let insert = |p: u32| operation(Kind::Insert, missing(2 * p + p % 2, 6, p / 2 % 5));
     without_turns(file, (0..32).map(insert).collect())
 }
 
@@ -138,7 +127,7 @@ fn waiting() -> Sample {
 
 /// 255 searches that are finished, and one that never begins, so that a run cannot end before its last turn.
 fn finished() -> Sample {
-    let mut job = searches(held);
+    let mut job = searches(0);
     job.turns = (0..255).chain(0..255).collect();
     Sample {
         name: "of a finished operation",
