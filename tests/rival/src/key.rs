@@ -6,8 +6,8 @@
 const START: u64 = 2_166_136_261;
 const PRIME: u64 = 16_777_619;
 
-/// The pseudo key of the call in a record's low half, in the low half of what is given; the high half is left over from the last product. Each product
-/// is one of two low halves and has 64 bits: there is an instruction for two of these at a time, and none for products of 32 bits.
+/// The pseudo key of the call in a record's low half, in the low half of what is given; the high half is left over from the last product. The products
+/// are of 32 bits by 32 and have 64: of these the plainest processor makes two at a time, in the places where two records stand, and of shorter ones none.
 #[inline(always)]
 pub fn of_record(record: u64) -> u64 {
     let mut key = START;

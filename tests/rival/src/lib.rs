@@ -6,6 +6,8 @@
 //! - a check of one pass that says only yes or no (`check`); where it says no, the refusal is looked for row by row (`exact`);
 //! - every table of a run is a view of the lent memory with a fixed size and byte-wide numbers, so that few indices are tested
 //!   (`tables`), and the length of a page is a constant of the compiled code (`header::by_length`);
+//! - the pseudo key of a call is worked out once for each operation, on its first turn, and of a record once for each split of its page; the check, which
+//!   needs those of all records, works out two at a time (`key::of_record`);
 //! - a turn that waits, or that is of a finished operation, is one test (`tables::FREE`);
 //! - which pages are left after joining is read off counts, and each is written once (`tidy`).
 //!

@@ -36,7 +36,7 @@ pub fn find<const N: usize>(page: &[u8; N], call: u32) -> Option<usize> {
     (found != 0).then_some(found.trailing_zeros() as usize)
 }
 
-/// The pseudo keys of a full page's records, each with the bits that it shares with this one zero. Behind the last record there are zeros.
+/// Where the pseudo keys of a full page's records differ from this one: each exclusive-or it, and zeros behind the last record.
 #[inline(always)]
 pub fn differences<const N: usize>(page: &[u8; N], key: u32) -> [u32; 8] {
     let mut differences = [0; 8];
@@ -56,8 +56,8 @@ pub fn along(differences: &[u32; 8], shared: u32) -> u8 {
     along as u8
 }
 
-/// Puts a record before the first with a higher call; the page has room. The higher ones move up from the last on: calls run on one by one, so
-/// there are mostly none.
+/// Puts a record before the first with a higher call; the page has room. The higher ones move up from the last on: most calls that come in are above
+/// those that are there.
 #[inline(always)]
 pub fn insert<const N: usize>(page: &mut [u8; N], own: u64) {
     let mut at = page[1] as usize & 7;

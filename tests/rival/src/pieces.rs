@@ -4,7 +4,6 @@
 //! Each split cuts the page that would take the call, by the next bit: the page that is split keeps bit 0, a new page gets bit 1. All records go
 //! along with the call up to the last split, which is the first to part them: of the pieces two have records, and the others are empty.
 
-use crate::key::{as_first_bits, first_bits};
 use crate::page::{put_record, record, room};
 
 /// A piece. `holds`: which records of the old page it has, a bit for each. `own`: it is the page that the call goes to.
@@ -19,8 +18,9 @@ pub struct Piece {
 /// An insert into a full page of local depth `from`, with splits up to depth `end`.
 #[derive(Clone, Copy)]
 pub struct Splits {
-    /// The first bits of the call's pseudo key, as many as the directory's depth, with zeros behind them.
-    pub key: u32,
+    /// The call's own entry, and the directory's depth: of the pseudo key no more bits are needed than those of the entry's number.
+    pub home: u32,
+    pub global: u32,
     pub from: u32,
     pub end: u32,
     /// Which records of the old page go along with the call at the last split too, a bit for each.
@@ -28,16 +28,23 @@ pub struct Splits {
 }
 
 impl Splits {
+    /// The first bits of the call's pseudo key, as many as `depth`.
+    #[inline(always)]
+    fn first_bits(self, depth: u32) -> u32 {
+        self.home >> ((self.global - depth) & 31)
+    }
+
     /// What is left of a page that would take the call at depth `from`. It keeps bit 0, so the call leaves it at its first bit 1.
     #[inline(always)]
     fn left(self, from: u32) -> Piece {
-        let leaves = from + (self.key << (from & 31) | 1).leading_zeros();
-        if leaves < self.end {
-            return self.parted(leaves);
+        let pattern = self.first_bits(self.end);
+        let cut = pattern & ((1 << ((self.end - from) & 31)) - 1);
+        if cut != 0 {
+            return self.parted(self.end - 1 - cut.ilog2());
         }
         Piece {
             depth: self.end,
-            pattern: first_bits(self.key, self.end),
+            pattern,
             holds: self.along,
             own: true,
         }
@@ -49,7 +56,7 @@ impl Splits {
         let last = depth + 1 == self.end;
         Piece {
             depth: depth + 1,
-            pattern: first_bits(self.key, depth + 1) ^ 1,
+            pattern: self.first_bits(depth + 1) ^ 1,
             holds: if last { !self.along } else { 0 },
             own: false,
         }
@@ -65,21 +72,22 @@ impl Splits {
     #[inline(always)]
     pub fn new_piece(self, i: u32) -> Piece {
         let depth = self.from + i;
-        if first_bits(self.key, depth + 1) & 1 == 1 {
+        if self.first_bits(depth + 1) & 1 == 1 {
             self.left(depth + 1)
         } else {
             self.parted(depth)
         }
     }
 
-    /// Which new page, from 0, this entry is to name, where it is not the old one. As far as its bits are the call's, each bit 1 leads on to a new page, and
-    /// so does a bit 1 where they part: the last bit 1 up to there tells the page.
+    /// Which new page, from 0, an entry is to name, where it is not the old one. As far as its bits are the call's, each bit 1 leads on to a new page, and so
+    /// does a bit 1 where they part: the last bit 1 up to there tells the page. `behind`: how many bits come after.
     #[inline(always)]
-    pub fn new_page(self, entry: u8, global: u32) -> u32 {
-        let bits = as_first_bits(entry as u32, global);
-        let parted = (bits ^ self.key | 1).leading_zeros() + 1;
-        let last = parted.min(self.end);
-        last - 1 - first_bits(bits, last).trailing_zeros() - self.from
+    pub fn new_page(self, entry: u8) -> u32 {
+        let entry = entry as u32;
+        let parted = (entry ^ self.home | 1).ilog2();
+        let behind = parted.max(self.global - self.end);
+        let last = (entry & u32::MAX << (behind & 31)).trailing_zeros();
+        self.global - self.from - 1 - last
     }
 }
 

@@ -1,6 +1,5 @@
 //! The turns of an insert that splits its page. Each gives whether the operation is finished.
 
-use crate::key::as_first_bits;
 use crate::operation::{Operation, Row, UNLOCK, UNLOCK_NEW, WRITE_ENTRY, WRITE_OLD};
 use crate::pieces::Splits;
 use crate::result::STORED;
@@ -18,7 +17,8 @@ impl<const N: usize> Shared<'_, '_, N> {
     fn splits(&self, operation: &Operation) -> Splits {
         let from = self.file.pages[operation.row.page as usize][0] as u32;
         Splits {
-            key: as_first_bits(operation.row.home as u32, self.depth),
+            home: operation.row.home as u32,
+            global: self.depth,
             from,
             end: from + operation.row.count as u32,
             along: operation.row.along,
@@ -46,7 +46,7 @@ impl<const N: usize> Shared<'_, '_, N> {
     pub fn write_entry(&mut self, operation: &mut Operation) -> bool {
         let splits = self.splits(operation);
         let entry = operation.row.next;
-        let new = splits.new_page(entry, self.depth);
+        let new = splits.new_page(entry);
         let named = new_number(operation.row, new as u8);
         let change = (entry as usize) << 3 | (splits.from & 7) as usize;
         self.changes[change] = operation.now.to_le_bytes();
