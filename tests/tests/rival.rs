@@ -283,8 +283,8 @@ fn one_by_one(file: ChargeFile, told: &[(Kind, u32)], each: usize) -> Vec<(u8, u
     answers.map(code_and_used).collect()
 }
 
-/// As deep as can be, along every pattern of 8 bits: all records but one have the call's own pattern, that one's differs in the last bit. 8 new pages; the
-/// old one keeps the entries behind which the call has left it, with its first bit 1, or, where there is none before the last, a single one.
+/// As deep as can be, along every pattern of 8 bits: all records but one have the call's own, and that one's differs in the last bit, so there are 8 new
+/// pages. The call leaves the old page at its first bit 1: the sooner, the more entries the page keeps, and it keeps one where all bits are 0.
 #[test]
 fn the_deepest_splits() {
     for pattern in 0..256u32 {
