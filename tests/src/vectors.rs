@@ -8,10 +8,7 @@
 //! text.
 //!
 //! - Of a job: `job`, and `print`, what `chargelog` prints, which lends enough
-//!   itself. Those in the folder `earlier` came with an earlier request, whose
-//!   number they have, and still hold whole. Of those in `printed` the text is
-//!   all that holds: they came with nothing else, or with an earlier request,
-//!   whose number they have, and a result of another version.
+//!   itself.
 //! - Of a file to be tidied: `file`, and `depth`, the wanted depth as text.
 
 use std::collections::{BTreeMap, BTreeSet};
@@ -24,10 +21,10 @@ use crate::check::WORKING_MEMORY;
 use crate::run::Outcome;
 
 /// How many jobs there are: a test of no vectors would always pass.
-const JOBS: usize = 606;
+const JOBS: usize = 375;
 
 /// How many files to be tidied.
-const TO_BE_TIDIED: usize = 156;
+const TO_BE_TIDIED: usize = 163;
 
 /// The folder of the files to be tidied; every other one has jobs.
 const TIDY_FOLDER: &str = "12-tidy";
@@ -48,9 +45,8 @@ pub struct Vector {
     /// What is lent: bytes of the result buffer, rows, and bytes of other
     /// working memory.
     pub room: (usize, usize, usize),
-    /// What a run with that much lent comes to, if that is stored; else what
-    /// is lent is enough, and only the text tells.
-    pub wanted: Option<Outcome>,
+    /// What a run with that much lent comes to.
+    pub wanted: Outcome,
     /// What `chargelog` prints.
     pub print: Vec<u8>,
 }
@@ -161,20 +157,18 @@ fn read_to_be_tidied(name: &str) -> ToBeTidied {
         file: bytes(name, "file").unwrap_or_else(|| panic!("no {name}.file")),
         depth: one_number("depth").unwrap_or_else(|| panic!("no {name}.depth")) as u64,
         room: one_number("room").unwrap_or(ENOUGH.0),
-        wanted: wanted(name).expect("no text stands for an outcome here"),
+        wanted: wanted(name),
     }
 }
 
-/// A result, or a refusal, but not both; neither only where the text alone is
-/// wanted.
-fn wanted(name: &str) -> Option<Outcome> {
+/// A result, or a refusal, but not both.
+fn wanted(name: &str) -> Outcome {
     match (bytes(name, "out"), numbers(name, "refused").as_deref()) {
-        (Some(result), None) => Some(Outcome::Done { result }),
-        (None, Some([number, place])) => Some(Outcome::Refused {
+        (Some(result), None) => Outcome::Done { result },
+        (None, Some([number, place])) => Outcome::Refused {
             number: *number as u32,
             place: *place as u32,
-        }),
-        (None, None) if name.starts_with("printed/") => None,
+        },
         (out, refused) => panic!("{name}: out {}, refused {refused:?}", out.is_some()),
     }
 }

@@ -93,8 +93,7 @@ fn every_vector() {
     let vectors = vectors::all();
     for vector in &vectors {
         let outcome = agree(&vector.job, vector.room);
-        let wanted = vector.wanted.as_ref().unwrap_or(&outcome);
-        assert_eq!(outcome, *wanted, "{}", vector.name);
+        assert_eq!(outcome, vector.wanted, "{}", vector.name);
         refused += usize::from(matches!(outcome, Outcome::Refused { .. }));
     }
     assert!(
