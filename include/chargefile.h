@@ -61,7 +61,7 @@ extern "C" {
 
 /* ---- Versions. A job of another version is refused (CHARGEFILE_REFUSED_VERSION). */
 
-#define CHARGEFILE_JOB_VERSION 1u    /* of jobs, and so of charge files */
+#define CHARGEFILE_JOB_VERSION 2u    /* of jobs, and so of charge files */
 #define CHARGEFILE_RESULT_VERSION 2u /* of results; the charge file in one has that of jobs */
 
 /* ---- Limits. A job with a count outside them is refused (CHARGEFILE_REFUSED_LIMIT). */
@@ -98,6 +98,12 @@ extern "C" {
 #define CHARGEFILE_PAGE_AT_DEPTH 0u   /* 1 byte: l */
 #define CHARGEFILE_PAGE_AT_COUNT 1u   /* 1 byte: how many records */
 #define CHARGEFILE_PAGE_AT_PATTERN 2u /* 2 bytes: a number of l bits */
+
+/* ---- Where a call belongs. Its pseudo key is FNV-1a, 32 bits, of the four bytes of its number:
+ * from 2166136261 on, for each byte, the lowest first, exclusive-or with it, then times 16777619
+ * modulo 2^32. The key's first g bits, the highest, are the call's entry, counted from 0; the page
+ * that it names has the key's first l bits for its pattern. Calls 0, 1 and 6 have the keys 4b95f515,
+ * fb69b604 and ab3d76f3 (hexadecimal). Different calls may have the same key. */
 
 /* ---- Sizes in bytes of the parts of a job and of a result. */
 
@@ -197,7 +203,7 @@ static inline size_t chargefile_result_size(const uint8_t *job, size_t job_lengt
  *
  *   No.  When                                                        Place
  *    1   the job is under 32 bytes                                   its length
- *    2   the version is not 1                                        0
+ *    2   the version is not 2                                        0
  *    3   a count is outside its limits, or U is 0 or above P         the field
  *    4   an offset or the total is not as computed                   the field
  *        the length is not the total                                 28

@@ -41,10 +41,10 @@ static void outcome_layout(void)
     EXPECT_EQUAL(offsetof(chargefile_outcome, length), 16);
 }
 
-/* "version (2 bytes, 1)" of a job, "The result's version is 2." */
+/* "Job version is 2", and "The result's version is 2." */
 static void versions(void)
 {
-    EXPECT_EQUAL(CHARGEFILE_JOB_VERSION, 1);
+    EXPECT_EQUAL(CHARGEFILE_JOB_VERSION, 2);
     EXPECT_EQUAL(CHARGEFILE_RESULT_VERSION, 2);
 }
 

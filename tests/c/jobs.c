@@ -43,7 +43,7 @@ void put_four(uint8_t *at, uint32_t number)
 static void put_header(job *j, counts c)
 {
     layout l = layout_of(c);
-    put_two(j->bytes, 1);
+    put_two(j->bytes, 2);
     j->bytes[2] = (uint8_t)c.depth;
     j->bytes[3] = (uint8_t)c.capacity;
     put_two(j->bytes + 4, c.pages);

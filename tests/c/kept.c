@@ -19,7 +19,7 @@ typedef struct caller {
 static const caller FROM_C = {chargefile_check, chargefile_run};
 static const caller FROM_CPP = {cpp_check, cpp_run};
 
-/* Job E with one byte changed (its first is 1 already), and by how much the job is cut and less is
+/* Job E with one byte changed (its first is 2 already), and by how much the job is cut and less is
  * lent than the least. */
 typedef struct refused {
     const char *name;
@@ -29,8 +29,8 @@ typedef struct refused {
 } refused;
 
 static const refused REFUSED[] = {
-    {"kept: refusal 1", 0, 1, 136, 0, 0, 0, CHARGEFILE_REFUSED_SHORT, 20},
-    {"kept: refusal 2", 0, 2, 0, 0, 0, 0, CHARGEFILE_REFUSED_VERSION, 0},
+    {"kept: refusal 1", 0, 2, 136, 0, 0, 0, CHARGEFILE_REFUSED_SHORT, 20},
+    {"kept: refusal 2", 0, 1, 0, 0, 0, 0, CHARGEFILE_REFUSED_VERSION, 0},
     {"kept: refusal 3", 2, 9, 0, 0, 0, 0, CHARGEFILE_REFUSED_LIMIT, 2},
     {"kept: refusal 4", 20, 77, 0, 0, 0, 0, CHARGEFILE_REFUSED_OFFSET, 20},
     {"kept: refusal 5", 34, 2, 0, 0, 0, 0, CHARGEFILE_REFUSED_ENTRY, 34},
@@ -41,9 +41,9 @@ static const refused REFUSED[] = {
     {"kept: refusal 8, by the last byte", 43, 1, 0, 0, 0, 0, CHARGEFILE_REFUSED_RECORD, 48},
     {"kept: refusal 9", 92, 5, 0, 0, 0, 0, CHARGEFILE_REFUSED_OPERATION, 86},
     {"kept: refusal 10", 154, 4, 0, 0, 0, 0, CHARGEFILE_REFUSED_TURN, 154},
-    {"kept: refusal 11, result", 0, 1, 0, 1, 0, 0, CHARGEFILE_REFUSED_OUTPUT, 0},
-    {"kept: refusal 11, rows", 0, 1, 0, 0, 1, 0, CHARGEFILE_REFUSED_OUTPUT, 1},
-    {"kept: refusal 11, memory", 0, 1, 0, 0, 0, 1, CHARGEFILE_REFUSED_OUTPUT, 2},
+    {"kept: refusal 11, result", 0, 2, 0, 1, 0, 0, CHARGEFILE_REFUSED_OUTPUT, 0},
+    {"kept: refusal 11, rows", 0, 2, 0, 0, 1, 0, CHARGEFILE_REFUSED_OUTPUT, 1},
+    {"kept: refusal 11, memory", 0, 2, 0, 0, 0, 1, CHARGEFILE_REFUSED_OUTPUT, 2},
     {"kept: refusal 12", 38, 1, 0, 0, 0, 0, CHARGEFILE_REFUSED_PATTERN, 38},
     {"kept: refusal 13", 57, 1, 0, 0, 0, 0, CHARGEFILE_REFUSED_ZERO, 57},
 };

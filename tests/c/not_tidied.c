@@ -12,7 +12,7 @@ static job j, wanted;
 /* Two full pages of depth 1, with these counts. */
 static void make_two_full(job *into, counts c)
 {
-    static const page full[2] = {{1, 0, 1, {2}}, {1, 1, 1, {3}}};
+    static const page full[2] = {{1, 0, 1, {4}}, {1, 1, 1, {5}}};
     make_file(into, c, full);
 }
 
@@ -37,7 +37,7 @@ static void wanted_depths(void)
  * come to one of depth 0. */
 static void depth_after_joining(void)
 {
-    static const page both = {0, 0, 2, {2, 3}};
+    static const page both = {0, 0, 2, {4, 5}};
     make_two_full(&j, (counts){3, 2, 2, 2, 0, 0});
     make_file(&wanted, (counts){0, 2, 2, 1, 0, 0}, &both);
     expect_tidied(&j, 0, wanted.length, &wanted);
@@ -57,6 +57,18 @@ static void order_of_refusals(void)
     expect_not_tidied(&j, 9, 0, CHARGEFILE_REFUSED_DEPTH, 0);
     expect_not_tidied(&j, 0, 0, CHARGEFILE_REFUSED_DEPTH, 0);
     expect_not_tidied(&j, 1, 0, CHARGEFILE_REFUSED_OUTPUT, CHARGEFILE_SMALL_OUTPUT);
+}
+
+/* "Job version is 2; version 1 gives refusal 2": at 0, and before all else that may be wrong. */
+static void version_1(void)
+{
+    make_two_full(&j, (counts){1, 1, 2, 2, 0, 0});
+    put_two(j.bytes, 1);
+    expect_refused(&j, CHARGEFILE_REFUSED_VERSION, 0);
+    expect_not_tidied(&j, 1, OUT_ROOM, CHARGEFILE_REFUSED_VERSION, 0);
+    expect_not_tidied(&j, 9, 0, CHARGEFILE_REFUSED_VERSION, 0);
+    j.bytes[CHARGEFILE_AT_DEPTH] = 9;
+    expect_not_tidied(&j, 9, 0, CHARGEFILE_REFUSED_VERSION, 0);
 }
 
 /* One operation or as many as there can be, with turns or without. */
@@ -122,6 +134,7 @@ void not_tidied_tests(void)
     test("not tidied: every wanted depth but 1 to 8", wanted_depths);
     test("not tidied: the depth after joining counts", depth_after_joining);
     test("not tidied: the order of refusals", order_of_refusals);
+    test("not tidied: version 1", version_1);
     test("not tidied: operations present", operations_present);
     test("not tidied: refused as by the check", refused_as_by_the_check);
     test("not tidied: every wrong length", every_wrong_length);

@@ -7,8 +7,9 @@
 #include "told.h"
 
 /* One operation on page 2, which has depth 1 and these calls; page 1 is empty. The depth is 2, and
- * a page has room for two records: calls that end in binary 01 belong to entry 2, those that end in
- * 11 to entry 3. It is answered when it has used `turns` turns, and finished with `last`. */
+ * a page has room for two records: calls 6, 12 and 19, whose pseudo keys begin with 10, belong to
+ * entry 2, and call 8, whose pseudo key begins with 11, to entry 3. It is answered when it has used
+ * `turns` turns, and finished with `last`. */
 typedef struct answered {
     const char *name;
     unsigned pages, kind;
@@ -19,18 +20,18 @@ typedef struct answered {
 } answered;
 
 static const answered ANSWERED[] = {
-    {"page: found", 2, CHARGEFILE_SEARCH, 1, 2, {1, 5}, CHARGEFILE_FOUND, 2, 2, 2},
-    {"page: none", 2, CHARGEFILE_SEARCH, 3, 2, {1, 5}, CHARGEFILE_NONE, 2, 3, 3},
-    {"page: stored", 2, CHARGEFILE_INSERT, 3, 1, {1}, CHARGEFILE_STORED, 2, 5, 6},
-    {"page: there", 2, CHARGEFILE_INSERT, 5, 2, {1, 5}, CHARGEFILE_ALREADY_THERE, 2, 4, 5},
-    {"page: deleted", 2, CHARGEFILE_DELETE, 5, 2, {1, 5}, CHARGEFILE_DELETED, 2, 5, 6},
-    {"page: absent", 2, CHARGEFILE_DELETE, 3, 2, {1, 5}, CHARGEFILE_ABSENT, 2, 4, 5},
-    {"page: differs", 2, CHARGEFILE_DELETE, 5, 2, {1, 5}, CHARGEFILE_DIFFERS, 2, 4, 5},
-    {"page: no depth", 2, CHARGEFILE_INSERT, 9, 2, {1, 5}, CHARGEFILE_NO_DEPTH, 2, 4, 5},
-    {"page: no page", 2, CHARGEFILE_INSERT, 3, 2, {1, 5}, CHARGEFILE_NO_PAGE, 2, 4, 5},
+    {"page: found", 2, CHARGEFILE_SEARCH, 6, 2, {6, 12}, CHARGEFILE_FOUND, 2, 2, 2},
+    {"page: none", 2, CHARGEFILE_SEARCH, 8, 2, {6, 12}, CHARGEFILE_NONE, 2, 3, 3},
+    {"page: stored", 2, CHARGEFILE_INSERT, 8, 1, {6}, CHARGEFILE_STORED, 2, 5, 6},
+    {"page: there", 2, CHARGEFILE_INSERT, 12, 2, {6, 12}, CHARGEFILE_ALREADY_THERE, 2, 4, 5},
+    {"page: deleted", 2, CHARGEFILE_DELETE, 12, 2, {6, 12}, CHARGEFILE_DELETED, 2, 5, 6},
+    {"page: absent", 2, CHARGEFILE_DELETE, 8, 2, {6, 12}, CHARGEFILE_ABSENT, 2, 4, 5},
+    {"page: differs", 2, CHARGEFILE_DELETE, 12, 2, {6, 12}, CHARGEFILE_DIFFERS, 2, 4, 5},
+    {"page: no depth", 2, CHARGEFILE_INSERT, 19, 2, {6, 12}, CHARGEFILE_NO_DEPTH, 2, 4, 5},
+    {"page: no page", 2, CHARGEFILE_INSERT, 8, 2, {6, 12}, CHARGEFILE_NO_PAGE, 2, 4, 5},
     /* page 3 on turn 4, entry 3 on turn 5, page 3 unlocked on turn 6, page 2 on turn 7 */
-    {"page: the new page", 3, CHARGEFILE_INSERT, 3, 2, {1, 5}, CHARGEFILE_STORED, 3, 6, 9},
-    {"page: the old page", 3, CHARGEFILE_INSERT, 5, 2, {1, 3}, CHARGEFILE_STORED, 2, 8, 9},
+    {"page: the new page", 3, CHARGEFILE_INSERT, 8, 2, {6, 12}, CHARGEFILE_STORED, 3, 6, 9},
+    {"page: the old page", 3, CHARGEFILE_INSERT, 12, 2, {6, 8}, CHARGEFILE_STORED, 2, 8, 9},
 };
 
 static job j;
@@ -86,28 +87,43 @@ static void put_turns(const unsigned *list, unsigned count)
 
 /* Both operations beside the insert read in their entry that page 1 has call 5. The insert moves it
  * to page 2. The delete locks page 1, lets it go and decides in page 2; the search reads page 1,
- * then page 2. (docs/TURNS.md goes through these turns.) */
-static void run_three(uint32_t delete_at)
+ * then page 2. (docs/TURNS.md goes through this list of turns.) Beside call 5 one of calls 3 and 1 is
+ * in the page, and the other is inserted: call 3 belongs to entry 2, as call 5 does, call 1 to entry
+ * 3, so that page 3 is needed too. */
+static void run_three(uint32_t beside, uint32_t inserted, uint32_t delete_at)
 {
     static const unsigned list[27] = {1, 2, 0, 0, 1, 0, 0, 0, 0, 0, 0, 0, 0, 2,
                                       1, 0, 1, 1, 1, 2, 1, 1, 1, 2, 1, 1, 2};
-    static const uint32_t held[2] = {1, 5};
+    const uint32_t held[2] = {beside, 5};
     counts c = {2, 2, 3, 1, 3, 27};
     make_job(&j, c);
     put_calls(&j, 1, 0, 0, held, 2);
-    put_operation(&j, 0, CHARGEFILE_INSERT, 3, charge_of(3));
+    put_operation(&j, 0, CHARGEFILE_INSERT, inserted, charge_of(inserted));
     put_operation(&j, 1, CHARGEFILE_DELETE, 5, delete_at);
     put_operation(&j, 2, CHARGEFILE_SEARCH, 5, 0);
     put_turns(list, 27);
     expect_run(&j, 0);
-    expect_answer(0, (answer){CHARGEFILE_STORED, 3, 11, charge_of(3)});
     expect_answer(2, (answer){CHARGEFILE_FOUND, 2, 4, charge_of(5)});
 }
 
 static void three_operations(void)
 {
-    run_three(0);
+    run_three(3, 1, 0);
+    expect_answer(0, (answer){CHARGEFILE_STORED, 3, 11, charge_of(1)});
     expect_answer(1, (answer){CHARGEFILE_DELETED, 2, 9, charge_of(5)});
+    expect_line(0, 10, 0);
+    expect_line(1, 23, 2);
+    expect_line(2, 24, 1);
+}
+
+/* The same with the insert of (C): its call goes to page 2 as well, and is stored with entry 2. */
+static void three_in_one_page(void)
+{
+    run_three(1, 3, 0);
+    expect_answer(0, (answer){CHARGEFILE_STORED, 2, 11, charge_of(3)});
+    expect_answer(1, (answer){CHARGEFILE_DELETED, 2, 9, charge_of(5)});
+    expect_line(0, 9, 0);
+    expect_line(1, 23, 2);
     expect_line(2, 24, 1);
 }
 
@@ -115,52 +131,54 @@ static void three_operations(void)
  * afterwards. */
 static void three_with_another_charge(void)
 {
-    run_three(charge_of(1));
+    run_three(3, 1, charge_of(3));
+    expect_answer(0, (answer){CHARGEFILE_STORED, 3, 11, charge_of(1)});
     expect_answer(1, (answer){CHARGEFILE_DIFFERS, 2, 8, charge_of(5)});
     expect_line(1, 22, 1);
 }
 
-/* Insert 3 is stored in page 1; then insert 4 splits that page, and call 3 goes to page 2. Each
+/* Insert 5 is stored in page 1; then insert 7 splits that page, and call 5 goes to page 2. Each
  * tells the page at its own moment. A search afterwards reads page 2. */
 static void moved_on_afterwards(void)
 {
     static const unsigned list[17] = {0, 0, 0, 0, 0, 0, 1, 1, 1, 1, 1, 1, 1, 1, 1, 2, 2};
-    static const uint32_t before[1] = {2}, even[2] = {2, 4}, odd[1] = {3};
+    static const uint32_t before[1] = {4}, stay[2] = {4, 7}, go[1] = {5};
     static job wanted;
     counts c = {1, 2, 2, 1, 3, 17}, file = {1, 2, 2, 2, 0, 0};
     make_job(&j, c);
     put_calls(&j, 1, 0, 0, before, 1);
-    put_operation(&j, 0, CHARGEFILE_INSERT, 3, charge_of(3));
-    put_operation(&j, 1, CHARGEFILE_INSERT, 4, charge_of(4));
-    put_operation(&j, 2, CHARGEFILE_SEARCH, 3, 0);
+    put_operation(&j, 0, CHARGEFILE_INSERT, 5, charge_of(5));
+    put_operation(&j, 1, CHARGEFILE_INSERT, 7, charge_of(7));
+    put_operation(&j, 2, CHARGEFILE_SEARCH, 5, 0);
     put_turns(list, 17);
     expect_run(&j, 0);
-    expect_answer(0, (answer){CHARGEFILE_STORED, 1, 6, charge_of(3)});
-    expect_answer(1, (answer){CHARGEFILE_STORED, 1, 9, charge_of(4)});
-    expect_answer(2, (answer){CHARGEFILE_FOUND, 2, 2, charge_of(3)});
+    expect_answer(0, (answer){CHARGEFILE_STORED, 1, 6, charge_of(5)});
+    expect_answer(1, (answer){CHARGEFILE_STORED, 1, 9, charge_of(7)});
+    expect_answer(2, (answer){CHARGEFILE_FOUND, 2, 2, charge_of(5)});
     make_job(&wanted, file);
-    put_calls(&wanted, 1, 1, 0, even, 2);
-    put_calls(&wanted, 2, 1, 1, odd, 1);
+    put_calls(&wanted, 1, 1, 0, stay, 2);
+    put_calls(&wanted, 2, 1, 1, go, 1);
     expect_file(&wanted);
 }
 
-/* "the page number less one": page 256 has byte 255. Calls that end in eight bits 1 are there. */
+/* "the page number less one": page 256 has byte 255. Calls whose pseudo keys begin with eight bits
+ * 1 are there, the lowest of them 68 and 293. */
 static void the_last_page(void)
 {
-    static const uint32_t held[1] = {255};
+    static const uint32_t held[1] = {68};
     counts c = {8, 1, 256, 256, 3, 13};
     make_job(&j, c);
     put_calls(&j, 256, 8, 255, held, 1);
-    put_operation(&j, 0, CHARGEFILE_SEARCH, 255, 0);
-    put_operation(&j, 1, CHARGEFILE_INSERT, 511, charge_of(511));
-    put_operation(&j, 2, CHARGEFILE_DELETE, 255, 0);
+    put_operation(&j, 0, CHARGEFILE_SEARCH, 68, 0);
+    put_operation(&j, 1, CHARGEFILE_INSERT, 293, charge_of(293));
+    put_operation(&j, 2, CHARGEFILE_DELETE, 68, 0);
     for (unsigned t = 0; t < 13; t++) {
         put_turn(&j, t, t < 2 ? 0 : t < 7 ? 1 : 2);
     }
     expect_run(&j, 0);
-    expect_answer(0, (answer){CHARGEFILE_FOUND, 256, 2, charge_of(255)});
+    expect_answer(0, (answer){CHARGEFILE_FOUND, 256, 2, charge_of(68)});
     expect_answer(1, (answer){CHARGEFILE_NO_DEPTH, 256, 5, 0});
-    expect_answer(2, (answer){CHARGEFILE_DELETED, 256, 6, charge_of(255)});
+    expect_answer(2, (answer){CHARGEFILE_DELETED, 256, 6, charge_of(68)});
     EXPECT_EQUAL(set.result[24 + 1], 255);
 }
 
@@ -172,6 +190,7 @@ void pages_told_tests(void)
         end_test();
     }
     test("page: three operations at once", three_operations);
+    test("page: three at once, all in one page", three_in_one_page);
     test("page: three at once, and a charge that differs", three_with_another_charge);
     test("page: a call that is moved on afterwards", moved_on_afterwards);
     test("page: the last there can be", the_last_page);

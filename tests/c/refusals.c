@@ -17,8 +17,9 @@ typedef struct damage {
 } damage;
 
 static const damage DAMAGES[] = {
-    {"refused: version 2", 0, 2, CHARGEFILE_REFUSED_VERSION, 0},
-    {"refused: version 257", 1, 1, CHARGEFILE_REFUSED_VERSION, 0},
+    {"refused: version 1", 0, 1, CHARGEFILE_REFUSED_VERSION, 0},
+    {"refused: version 3", 0, 3, CHARGEFILE_REFUSED_VERSION, 0},
+    {"refused: version 258", 1, 1, CHARGEFILE_REFUSED_VERSION, 0},
     {"refused: directory not at 32", 12, 33, CHARGEFILE_REFUSED_OFFSET, 12},
     {"refused: page table one off", 16, PAGE_1 + 1, CHARGEFILE_REFUSED_OFFSET, 16},
     {"refused: operations one off", 20, OPERATIONS + 1, CHARGEFILE_REFUSED_OFFSET, 20},
@@ -57,6 +58,21 @@ static const damage DAMAGES[] = {
 
 static job j;
 
+/* "version 1 gives refusal 2", and so does every other but 2. */
+static void every_other_version(void)
+{
+    make_job_e(&j, 20);
+    for (unsigned version = 0; version < 65536; version++) {
+        put_two(j.bytes, version);
+        chargefile_outcome told = chargefile_check(j.bytes, j.length);
+        if (version == 2) {
+            expect_done(told, 0);
+        } else {
+            expect_refusal(told, CHARGEFILE_REFUSED_VERSION, 0);
+        }
+    }
+}
+
 /* "under 32 bytes; place is the length" */
 static void every_length_under_32(void)
 {
@@ -79,11 +95,11 @@ static void every_other_wrong_length(void)
     }
 }
 
-/* A call in the wrong page: page 1 with pattern 0 and page 2 with pattern 1, and call 3 in page 1.
- * Call 3 ends in bit 1, so its pseudo key begins with 1. */
+/* A call in the wrong page: page 1 with pattern 0 and page 2 with pattern 1, and call 5 in page 1.
+ * The pseudo key of call 4 begins with 0, that of call 5 with 1. */
 static void wrong_page(void)
 {
-    static const record held[2] = {{2, 50}, {3, 70}};
+    static const record held[2] = {{4, 50}, {5, 70}};
     counts c = {1, 2, 2, 2, 0, 0};
     make_job(&j, c);
     put_page(&j, 1, 1, 0, held, 2);
@@ -136,6 +152,7 @@ void refusal_tests(void)
         expect_refused(&j, DAMAGES[i].number, DAMAGES[i].place);
         end_test();
     }
+    test("refused: every version but 2", every_other_version);
     test("refused: every length under 32", every_length_under_32);
     test("refused: every other wrong length", every_other_wrong_length);
     test("refused: a call in the wrong page", wrong_page);

@@ -1,4 +1,4 @@
-/* What a run writes: job E and the marked items (C) to (H) of the document. */
+/* What a run writes: job E, the marked items (C) to (H) of the document, and (C) with other calls. */
 #include "groups.h"
 #include "harness.h"
 #include "told.h"
@@ -40,14 +40,15 @@ static void job_e_log(void)
     expect_line(3, 18, 0);
 }
 
-/* "page 1 depth 1 pattern 0 : 2=50 4=90", "page 2 depth 1 pattern 1 :" */
+/* "page 1 depth 1 pattern 0 : 4=90", "page 2 depth 1 pattern 1 : 2=50" */
 static void job_e_file(void)
 {
-    static const record held[2] = {{2, 50}, {4, 90}};
+    static const record stays[1] = {{4, 90}}, goes[1] = {{2, 50}};
     static job wanted;
     counts c = {1, 2, 2, 2, 0, 0};
     make_job(&wanted, c);
-    put_page(&wanted, 1, 1, 0, held, 2);
+    put_page(&wanted, 1, 1, 0, stays, 1);
+    put_page(&wanted, 2, 1, 1, goes, 1);
     run_job_e(20, 148);
     expect_file(&wanted);
 }
@@ -87,29 +88,57 @@ static void expect_on_full_page(unsigned pages, unsigned kind, uint32_t call, an
 }
 
 /* (C) After (a) to (d), two new pages and two entries are written; then the new pages are unlocked,
- * the old page is written, and unlocked. The call's own entry is entry 3, written last: turn 7. */
+ * the old page is written, and unlocked. The call's own entry is entry 2, written first: turn 6. */
 static void insert_3_needs_two_pages(void)
 {
-    static const record moved[2] = {{1, 10}, {5, 20}};
-    static const record stored[1] = {{3, 30}};
+    static const record stored[2] = {{3, 30}, {5, 20}};
+    static const record parted[1] = {{1, 10}};
     static job wanted;
     make_split_twice(&wanted, 2);
-    put_page(&wanted, 2, 2, 2, moved, 2);
-    put_page(&wanted, 3, 2, 3, stored, 1);
-    expect_on_full_page(3, CHARGEFILE_INSERT, 3, (answer){CHARGEFILE_STORED, 3, 4 + 2 + 2 + 3, 30});
-    expect_line(0, 7, 0);
+    put_page(&wanted, 2, 2, 2, stored, 2);
+    put_page(&wanted, 3, 2, 3, parted, 1);
+    expect_on_full_page(3, CHARGEFILE_INSERT, 3, (answer){CHARGEFILE_STORED, 2, 4 + 2 + 2 + 3, 30});
+    expect_line(0, 6, 0);
     expect_file(&wanted);
 }
 
-/* (D), (E2), (F) and a delete of a call that is not there: one turn after (a) to (d) unlocks. */
+/* (E2) One new page is enough: both calls of the page go there, and call 9 stays. After (a) to (d),
+ * it is written, and two entries; then it is unlocked, and the old page is written on turn 8. */
+static void insert_9_needs_one_page(void)
+{
+    static const record stored[1] = {{9, 30}};
+    static const record moved[2] = {{1, 10}, {5, 20}};
+    static job wanted;
+    counts c = {2, 2, 2, 2, 0, 0};
+    make_job(&wanted, c);
+    put_page(&wanted, 1, 1, 0, stored, 1);
+    put_page(&wanted, 2, 1, 1, moved, 2);
+    expect_on_full_page(2, CHARGEFILE_INSERT, 9, (answer){CHARGEFILE_STORED, 1, 4 + 1 + 2 + 3, 30});
+    expect_line(0, 8, 0);
+    expect_file(&wanted);
+}
+
+/* "(C) with calls 5 and 6 in the page, no depth": both belong to entry 2, as call 3 does. The page
+ * stays as it is. */
+static void no_depth(void)
+{
+    static const record held[2] = {{5, 10}, {6, 20}};
+    static job wanted;
+    counts c = {2, 2, 3, 1, 0, 0};
+    make_full_page(&j, 3, CHARGEFILE_INSERT, 3, 30);
+    put_page(&j, 1, 0, 0, held, 2);
+    make_job(&wanted, c);
+    put_page(&wanted, 1, 0, 0, held, 2);
+    expect_run(&j, result_room(counts_of(&j)));
+    expect_answer(0, (answer){CHARGEFILE_NO_DEPTH, 1, 5, 0});
+    expect_line(0, 3, 0);
+    expect_file(&wanted);
+}
+
+/* (D), (F) and a delete of a call that is not there: one turn after (a) to (d) unlocks. */
 static void no_page(void)
 {
     expect_on_full_page(2, CHARGEFILE_INSERT, 3, (answer){CHARGEFILE_NO_PAGE, 1, 5, 0});
-}
-
-static void no_depth(void)
-{
-    expect_on_full_page(2, CHARGEFILE_INSERT, 9, (answer){CHARGEFILE_NO_DEPTH, 1, 5, 0});
 }
 
 static void already_there(void)
@@ -131,8 +160,9 @@ void result_tests(void)
     test("result: job E cut to 7 turns (G)", job_e_cut);
     test("result: job E without turns (H)", job_e_without_turns);
     test("result: insert 3 needs two pages (C)", insert_3_needs_two_pages);
+    test("result: insert 9 needs one page (E2)", insert_9_needs_one_page);
+    test("result: no depth, (C) with calls 5 and 6", no_depth);
     test("result: no page (D)", no_page);
-    test("result: no depth (E2)", no_depth);
     test("result: already there (F)", already_there);
     test("result: absent", absent);
 }

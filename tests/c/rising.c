@@ -4,6 +4,7 @@
  */
 #include "groups.h"
 #include "harness.h"
+#include "key.h"
 #include "told.h"
 
 /* Calls of a page in the page's order. */
@@ -49,24 +50,25 @@ static const change CHANGES[] = {
     {"delete: call 0", CHARGEFILE_DELETE, 0, {2, {0, 1}}, {1, {1}}},
 };
 
-/* An insert into a full page with room for three, and the pages that its split leaves: the even
- * calls stay in page 1, the odd ones go to page 2. */
+/* An insert into a full page with room for three, and the pages that its split leaves: calls whose
+ * pseudo key begins with 0, as 0, 4, 7, 9, 11 and 13, stay in page 1; those whose pseudo key begins
+ * with 1, as 1, 3, 5, 6, 8 and 12, go to page 2. */
 typedef struct split {
     const char *name;
     uint32_t call;
-    calls before, even, odd;
+    calls before, stay, go;
 } split;
 
 static const split SPLITS[] = {
-    {"split: at the front of the old page", 2, {3, {4, 5, 8}}, {3, {2, 4, 8}}, {1, {5}}},
-    {"split: amid the old page", 6, {3, {4, 5, 8}}, {3, {4, 6, 8}}, {1, {5}}},
-    {"split: at the end of the old page", 10, {3, {4, 5, 8}}, {3, {4, 8, 10}}, {1, {5}}},
-    {"split: alone in the old page", 6, {3, {3, 5, 9}}, {1, {6}}, {3, {3, 5, 9}}},
-    {"split: at the front of the new page", 3, {3, {4, 5, 9}}, {1, {4}}, {3, {3, 5, 9}}},
-    {"split: amid the new page", 7, {3, {4, 5, 9}}, {1, {4}}, {3, {5, 7, 9}}},
-    {"split: at the end of the new page", 11, {3, {4, 5, 9}}, {1, {4}}, {3, {5, 9, 11}}},
-    {"split: alone in the new page", 5, {3, {2, 4, 8}}, {3, {2, 4, 8}}, {1, {5}}},
-    {"split: call 0", 0, {3, {1, 2, 3}}, {2, {0, 2}}, {2, {1, 3}}},
+    {"split: at the front of the old page", 4, {3, {7, 8, 11}}, {3, {4, 7, 11}}, {1, {8}}},
+    {"split: amid the old page", 9, {3, {7, 8, 11}}, {3, {7, 9, 11}}, {1, {8}}},
+    {"split: at the end of the old page", 13, {3, {7, 8, 11}}, {3, {7, 11, 13}}, {1, {8}}},
+    {"split: alone in the old page", 7, {3, {3, 5, 8}}, {1, {7}}, {3, {3, 5, 8}}},
+    {"split: at the front of the new page", 3, {3, {4, 5, 8}}, {1, {4}}, {3, {3, 5, 8}}},
+    {"split: amid the new page", 6, {3, {4, 5, 8}}, {1, {4}}, {3, {5, 6, 8}}},
+    {"split: at the end of the new page", 12, {3, {4, 5, 8}}, {1, {4}}, {3, {5, 8, 12}}},
+    {"split: alone in the new page", 8, {3, {4, 7, 9}}, {3, {4, 7, 9}}, {1, {8}}},
+    {"split: call 0", 0, {3, {1, 4, 5}}, {2, {0, 4}}, {2, {1, 5}}},
     {"split: by the last byte", 0x01000000, {3, {0xfe, 0xff, 0x02000000}},
      {3, {0xfe, 0x01000000, 0x02000000}}, {1, {0xff}}},
 };
@@ -101,31 +103,33 @@ static void expect_change(const change *of)
 }
 
 /* (a) to (d), then the new page on turn 4, entry 1 on turn 5, the unlocking of the new page, the
- * old page on turn 7, and its unlocking. An odd call is stored with its own entry, entry 1. */
+ * old page on turn 7, and its unlocking. A call that goes to the new page is stored with its own
+ * entry, entry 1. */
 static void expect_split(const split *of)
 {
     counts c = {1, 3, 2, 1, 1, 20}, file = {1, 3, 2, 2, 0, 0};
     make_one(c, &of->before, CHARGEFILE_INSERT, of->call);
     expect_run(&j, 0);
-    int odd = of->call % 2 == 1;
+    int goes = first_bits(of->call, 1) == 1;
     unsigned turns = 4 + 1 + 1 + 3;
-    expect_answer(0, (answer){CHARGEFILE_STORED, odd ? 2 : 1, turns, charge_of(of->call)});
-    expect_line(0, odd ? 5 : 7, 0);
+    expect_answer(0, (answer){CHARGEFILE_STORED, goes ? 2 : 1, turns, charge_of(of->call)});
+    expect_line(0, goes ? 5 : 7, 0);
     make_job(&wanted, file);
-    put_list(&wanted, 1, 1, 0, &of->even);
-    put_list(&wanted, 2, 1, 1, &of->odd);
+    put_list(&wanted, 1, 1, 0, &of->stay);
+    put_list(&wanted, 2, 1, 1, &of->go);
     expect_file(&wanted);
 }
 
-/* Two splits in one insert: the calls are all odd, so the first parts none of them. The second goes
- * by the last bit but one, and call 1 goes before 5 and 9 in the page that has it. */
+/* Two splits in one insert: all pseudo keys begin with 1, so the first parts none of the calls. The
+ * second goes by the bit behind it, which is 1 for call 8 alone, and call 3 goes before 5 and 12 in
+ * the page that has it. */
 static void two_splits(void)
 {
-    static const calls before = {3, {5, 7, 9}}, moved = {3, {1, 5, 9}}, parted = {1, {7}};
+    static const calls before = {3, {5, 8, 12}}, moved = {3, {3, 5, 12}}, parted = {1, {8}};
     counts c = {2, 3, 3, 1, 1, 20};
-    make_one(c, &before, CHARGEFILE_INSERT, 1);
+    make_one(c, &before, CHARGEFILE_INSERT, 3);
     expect_run(&j, 0);
-    expect_answer(0, (answer){CHARGEFILE_STORED, 2, 4 + 2 + 2 + 3, charge_of(1)});
+    expect_answer(0, (answer){CHARGEFILE_STORED, 2, 4 + 2 + 2 + 3, charge_of(3)});
     expect_line(0, 6, 0);
     make_split_twice(&wanted, 3);
     put_list(&wanted, 2, 2, 2, &moved);

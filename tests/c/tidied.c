@@ -6,6 +6,7 @@
 
 #include "groups.h"
 #include "harness.h"
+#include "key.h"
 #include "lent.h"
 #include "tidying.h"
 
@@ -18,48 +19,49 @@ typedef struct tidying {
     page was[4], left[4];
 } tidying;
 
-/* A call with the last bits .. is under the pattern: 0 is 0, 1 is 1; 00 is 00, 10 is 01, 01 is 10,
- * 11 is 11. So 4 is under 00, 2 and 6 under 01, 1 and 5 under 10, 3 and 7 under 11. */
+/* A pattern begins the pseudo keys of the calls under it: 4, 11 and 20 are under 00, 0, 7 and 16
+ * under 01, 3, 5, 6 and 12 under 10, 1, 8 and 17 under 11. So the first two lists are under 0, the
+ * others under 1. */
 static const tidying TIDYINGS[] = {
     {"tidied: one page", 2, 1, 0, 0, 1, 1, {{0, 0, 2, {3, 8}}}, {{0, 0, 2, {3, 8}}}},
     {"tidied: a pair with room", 3, 2, 1, 1, 2, 1, {{1, 0, 1, {4}}, {1, 1, 1, {3}}},
      {{0, 0, 2, {3, 4}}}},
-    {"tidied: a pair that just fits", 3, 2, 1, 1, 2, 1, {{1, 0, 2, {2, 4}}, {1, 1, 1, {9}}},
-     {{0, 0, 3, {2, 4, 9}}}},
-    {"tidied: a record too many", 3, 2, 1, 1, 2, 2, {{1, 0, 2, {2, 4}}, {1, 1, 2, {3, 9}}},
-     {{1, 0, 2, {2, 4}}, {1, 1, 2, {3, 9}}}},
+    {"tidied: a pair that just fits", 3, 2, 1, 1, 2, 1, {{1, 0, 2, {4, 7}}, {1, 1, 1, {8}}},
+     {{0, 0, 3, {4, 7, 8}}}},
+    {"tidied: a record too many", 3, 2, 1, 1, 2, 2, {{1, 0, 2, {4, 7}}, {1, 1, 2, {5, 8}}},
+     {{1, 0, 2, {4, 7}}, {1, 1, 2, {5, 8}}}},
     {"tidied: a full page and an empty one", 2, 2, 1, 1, 2, 1, {{1, 0, 0, {0}}, {1, 1, 2, {1, 3}}},
      {{0, 0, 2, {1, 3}}}},
-    {"tidied: records from both in turns", 4, 2, 1, 1, 2, 1, {{1, 0, 2, {2, 6}}, {1, 1, 2, {3, 5}}},
-     {{0, 0, 4, {2, 3, 5, 6}}}},
+    {"tidied: records from both in turns", 4, 2, 1, 1, 2, 1, {{1, 0, 2, {4, 7}}, {1, 1, 2, {5, 6}}},
+     {{0, 0, 4, {4, 5, 6, 7}}}},
     {"tidied: calls compared as numbers", 4, 2, 1, 1, 2, 1,
      {{1, 0, 2, {0xfe, 0x02000000}}, {1, 1, 2, {0xff, 0x01000001}}},
      {{0, 0, 4, {0xfe, 0xff, 0x01000001, 0x02000000}}}},
     {"tidied: the least call and the largest", 2, 2, 1, 1, 2, 1,
      {{1, 0, 1, {0}}, {1, 1, 1, {UINT32_MAX}}}, {{0, 0, 2, {0, UINT32_MAX}}}},
     {"tidied: joined pages are joined again", 4, 4, 2, 2, 4, 1,
-     {{2, 0, 1, {4}}, {2, 1, 1, {2}}, {2, 2, 1, {1}}, {2, 3, 1, {3}}}, {{0, 0, 4, {1, 2, 3, 4}}}},
+     {{2, 0, 1, {11}}, {2, 1, 1, {7}}, {2, 2, 1, {5}}, {2, 3, 1, {8}}}, {{0, 0, 4, {5, 7, 8, 11}}}},
     {"tidied: joined only when its like is joined", 3, 3, 2, 2, 3, 1,
-     {{1, 0, 1, {6}}, {2, 2, 1, {5}}, {2, 3, 1, {3}}}, {{0, 0, 3, {3, 5, 6}}}},
+     {{1, 0, 1, {16}}, {2, 2, 1, {12}}, {2, 3, 1, {8}}}, {{0, 0, 3, {8, 12, 16}}}},
     {"tidied: two joins, and no third", 2, 4, 2, 2, 4, 2,
-     {{2, 0, 1, {4}}, {2, 1, 1, {2}}, {2, 2, 1, {1}}, {2, 3, 1, {3}}},
-     {{1, 0, 2, {2, 4}}, {1, 1, 2, {1, 3}}}},
+     {{2, 0, 1, {11}}, {2, 1, 1, {7}}, {2, 2, 1, {5}}, {2, 3, 1, {8}}},
+     {{1, 0, 2, {7, 11}}, {1, 1, 2, {5, 8}}}},
     {"tidied: neighbours that are no pair", 2, 4, 2, 2, 4, 4,
-     {{2, 0, 2, {4, 8}}, {2, 1, 1, {2}}, {2, 2, 1, {1}}, {2, 3, 2, {3, 7}}},
-     {{2, 0, 2, {4, 8}}, {2, 1, 1, {2}}, {2, 2, 1, {1}}, {2, 3, 2, {3, 7}}}},
+     {{2, 0, 2, {11, 20}}, {2, 1, 1, {7}}, {2, 2, 1, {5}}, {2, 3, 2, {8, 17}}},
+     {{2, 0, 2, {11, 20}}, {2, 1, 1, {7}}, {2, 2, 1, {5}}, {2, 3, 2, {8, 17}}}},
     {"tidied: pages of unequal depth", 2, 3, 2, 2, 3, 3,
-     {{1, 0, 1, {2}}, {2, 2, 1, {1}}, {2, 3, 2, {3, 7}}},
-     {{1, 0, 1, {2}}, {2, 2, 1, {1}}, {2, 3, 2, {3, 7}}}},
+     {{1, 0, 1, {7}}, {2, 2, 1, {5}}, {2, 3, 2, {8, 17}}},
+     {{1, 0, 1, {7}}, {2, 2, 1, {5}}, {2, 3, 2, {8, 17}}}},
     {"tidied: numbered by the first entry", 2, 5, 2, 2, 4, 3,
-     {{2, 3, 1, {3}}, {2, 1, 1, {2}}, {2, 2, 2, {1, 5}}, {2, 0, 1, {4}}},
-     {{1, 0, 2, {2, 4}}, {2, 2, 2, {1, 5}}, {2, 3, 1, {3}}}},
-    {"tidied: numbered anew, nothing joined", 1, 2, 1, 1, 2, 2, {{1, 1, 1, {3}}, {1, 0, 1, {2}}},
-     {{1, 0, 1, {2}}, {1, 1, 1, {3}}}},
-    {"tidied: a deeper directory", 1, 3, 1, 3, 2, 2, {{1, 1, 1, {3}}, {1, 0, 1, {2}}},
-     {{1, 0, 1, {2}}, {1, 1, 1, {3}}}},
+     {{2, 3, 1, {8}}, {2, 1, 1, {7}}, {2, 2, 2, {5, 12}}, {2, 0, 1, {11}}},
+     {{1, 0, 2, {7, 11}}, {2, 2, 2, {5, 12}}, {2, 3, 1, {8}}}},
+    {"tidied: numbered anew, nothing joined", 1, 2, 1, 1, 2, 2, {{1, 1, 1, {5}}, {1, 0, 1, {4}}},
+     {{1, 0, 1, {4}}, {1, 1, 1, {5}}}},
+    {"tidied: a deeper directory", 1, 3, 1, 3, 2, 2, {{1, 1, 1, {5}}, {1, 0, 1, {4}}},
+     {{1, 0, 1, {4}}, {1, 1, 1, {5}}}},
     {"tidied: the deepest directory", 2, 2, 0, 8, 1, 1, {{0, 0, 1, {7}}}, {{0, 0, 1, {7}}}},
     {"tidied: a directory as shallow as can be", 2, 4, 8, 1, 3, 2,
-     {{1, 1, 2, {1, 3}}, {2, 0, 0, {0}}, {2, 1, 1, {2}}}, {{1, 0, 1, {2}}, {1, 1, 2, {1, 3}}}},
+     {{1, 1, 2, {5, 8}}, {2, 0, 0, {0}}, {2, 1, 1, {7}}}, {{1, 0, 1, {7}}, {1, 1, 2, {5, 8}}}},
     {"tidied: from depth 8 to depth 0", 1, 4, 8, 0, 2, 1, {{1, 0, 0, {0}}, {1, 1, 1, {1}}},
      {{0, 0, 1, {1}}}},
 };
@@ -83,27 +85,19 @@ static void expect_all(const tidying *t)
     expect_tidied(&wanted, t->wanted, wanted.length, &wanted);
 }
 
-/* The low byte of the calls under a pattern of 8 bits: its bits reversed. */
-static uint32_t low_byte(unsigned pattern)
-{
-    uint32_t low = 0;
-    for (unsigned bit = 0; bit < 8; bit++) {
-        low |= (pattern >> bit & 1u) << (7 - bit);
-    }
-    return low;
-}
-
 /* A file of the largest kind with 256 pages in use, the last pattern first if they are to be
- * numbered anew, and so many records in each. */
+ * numbered anew, and so many records in each: the lowest calls under its pattern. */
 static void make_largest(job *into, unsigned records, int backwards)
 {
     static page pages[256];
     counts c = {8, 8, 256, 256, 0, 0};
     for (unsigned x = 0; x < 256; x++) {
         unsigned pattern = backwards ? 255 - x : x;
+        uint32_t from = 0;
         pages[x] = (page){8, pattern, records, {0}};
         for (unsigned r = 0; r < records; r++) {
-            pages[x].calls[r] = low_byte(pattern) + 256 * r;
+            pages[x].calls[r] = call_under(8, pattern, from);
+            from = pages[x].calls[r] + 1;
         }
     }
     make_file(into, c, pages);
@@ -121,6 +115,17 @@ static void largest_full(void)
     expect_not_tidied(&j, 7, OUT_ROOM, CHARGEFILE_REFUSED_DEPTH, 0);
 }
 
+/* Another record for a page, which then still has its calls in rising order. */
+static void put_in_order(page *p, uint32_t call)
+{
+    unsigned r = p->count;
+    for (; r > 0 && p->calls[r - 1] > call; r--) {
+        p->calls[r] = p->calls[r - 1];
+    }
+    p->calls[r] = call;
+    p->count++;
+}
+
 /* One record in each page: every eight of them come to one page, of depth 5, whose records are of
  * eight pages and by rising call. */
 static void largest_thin(void)
@@ -128,9 +133,9 @@ static void largest_thin(void)
     static page pages[32];
     counts c = {5, 8, 256, 32, 0, 0};
     for (unsigned x = 0; x < 32; x++) {
-        pages[x] = (page){5, x, 8, {0}};
-        for (unsigned r = 0; r < 8; r++) {
-            pages[x].calls[r] = low_byte(8 * x) + 32 * r;
+        pages[x] = (page){5, x, 0, {0}};
+        for (unsigned pattern = 8 * x; pattern < 8 * x + 8; pattern++) {
+            put_in_order(&pages[x], call_under(8, pattern, 0));
         }
     }
     make_largest(&j, 1, 1);
@@ -163,8 +168,8 @@ static void tidied_and_run(void)
 /* File and output are bytes and need no alignment. */
 static void odd_addresses(void)
 {
-    static const page pages[2] = {{1, 1, 1, {3}}, {1, 0, 1, {2}}};
-    static const page left = {0, 0, 2, {2, 3}};
+    static const page pages[2] = {{1, 1, 1, {5}}, {1, 0, 1, {4}}};
+    static const page left = {0, 0, 2, {4, 5}};
     static uint8_t shifted[1 + 200];
     make_file(&j, (counts){1, 2, 2, 2, 0, 0}, pages);
     make_file(&wanted, (counts){2, 2, 2, 1, 0, 0}, &left);
