@@ -102,8 +102,8 @@ extern "C" {
 /* ---- Where a call belongs. Its pseudo key is FNV-1a, 32 bits, of the four bytes of its number:
  * from 2166136261 on, for each byte, the lowest first, exclusive-or with it, then times 16777619
  * modulo 2^32. The key's first g bits, the highest, are the call's entry, counted from 0; the page
- * that it names has the key's first l bits for its pattern. Calls 0, 1 and 6 have the keys 4b95f515,
- * fb69b604 and ab3d76f3 (hexadecimal). Different calls may have the same key. */
+ * that it names has the key's first l bits for its pattern. In hexadecimal, calls 0, 1 and 6 have
+ * the keys 4b95f515, fb69b604 and ab3d76f3. Different calls may have the same key. */
 
 /* ---- Sizes in bytes of the parts of a job and of a result. */
 

@@ -13,6 +13,7 @@ void result_tests(void);     /* what a run writes */
 void delete_tests(void);     /* a delete at a charge */
 void pages_told_tests(void); /* the page told with an answer */
 void rising_tests(void);     /* where a run puts a record, and where it finds one */
+void key_tests(void);        /* where a call belongs, and calls that share a pseudo key */
 void tidied_tests(void);     /* what tidying writes */
 void not_tidied_tests(void); /* what tidying refuses */
 

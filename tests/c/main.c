@@ -15,6 +15,7 @@ int main(void)
     delete_tests();
     pages_told_tests();
     rising_tests();
+    key_tests();
     tidied_tests();
     not_tidied_tests();
     return all_counted();

@@ -87,8 +87,8 @@ static void put_turns(const unsigned *list, unsigned count)
 
 /* Both operations beside the insert read in their entry that page 1 has call 5. The insert moves it
  * to page 2. The delete locks page 1, lets it go and decides in page 2; the search reads page 1,
- * then page 2. (docs/TURNS.md goes through this list of turns.) Beside call 5 one of calls 3 and 1 is
- * in the page, and the other is inserted: call 3 belongs to entry 2, as call 5 does, call 1 to entry
+ * then page 2. (docs/TURNS.md goes through this list of turns.) Of calls 3 and 1, one is beside
+ * call 5 and the other is inserted: call 3 belongs to entry 2, as call 5 does, and call 1 to entry
  * 3, so that page 3 is needed too. */
 static void run_three(uint32_t beside, uint32_t inserted, uint32_t delete_at)
 {

@@ -4,8 +4,8 @@
  *
  * The jobs have depth 1, capacity 4 and two pages, both in use. Page 1 takes calls whose pseudo key
  * begins with 0, as 0, 4, 7, 11 and 14; page 2 takes those whose pseudo key begins with 1, as 6, 8
- * and 12. Their directory stands at 32 (2 entries of 2 bytes), their pages of 36 bytes at 36 and 72,
- * their operations at 108. A page has its records at 4, 12, 20 and 28.
+ * and 12. Their directory stands at 32 (2 entries of 2 bytes), their pages of 36 bytes at 36 and
+ * 72, their operations at 108. A page has its records at 4, 12, 20 and 28.
  */
 #include "groups.h"
 #include "harness.h"

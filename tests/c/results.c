@@ -1,4 +1,4 @@
-/* What a run writes: job E, the marked items (C) to (H) of the document, and (C) with other calls. */
+/* What a run writes: job E, items (C) to (H) of the document, and (C) with calls 5 and 6. */
 #include "groups.h"
 #include "harness.h"
 #include "told.h"
