@@ -4,7 +4,7 @@ ghost use Prim.Native.Nat.{suc, _*_, _%_, _^_, _≤_, _<_};
 ghost use lib.Dec.{eqb};
 ghost use Rattle.spec.specs.Key.{mixed, pseudoKey, firstBits, index, shared};
 
-// Multiplication modulo 2^32: the remainder of the whole product.
+// Multiplication modulo 2^32: the remainder of the whole product, which has at most 64 bits.
 pub fn times(a: u32, b: u32) -> u32
     ensures { λ r. ⌜ r ≡ a * b % 2 ^ 32 ⌝ }
 {
@@ -18,16 +18,14 @@ fn mix(hash: u32, byte: u32) -> u32
     times(byte ^ hash, 16777619)
 }
 
-// "FNV-1a, 32 bits, as published": of the call number's four bytes, lowest first.
+// "FNV-1a, 32 bits, as published: start at 2166136261, for each of the four bytes, lowest first".
 pub fn pseudo_key(call: u32) -> u32
     ensures { λ r. ⌜ r ≡ pseudoKey call ⌝ }
 {
-    let low = call % 65536;
-    let high = call / 65536;
-    let one = mix(2166136261, low % 256);
-    let two = mix(one, low / 256 % 256);
-    let three = mix(two, high % 256);
-    mix(three, high / 256 % 256)
+    let one = mix(2166136261, call % 256);
+    let two = mix(one, call / 256 % 256);
+    let three = mix(two, call / 65536 % 256);
+    mix(three, call / 16777216)
 }
 
 // The first `depth` bits of a pseudo key, as a number. (A shift of 64 bits, since the shift at depth 0 is by 32.)

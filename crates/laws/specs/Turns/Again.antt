@@ -19,8 +19,7 @@ use Rattle.spec.specs.Encode.{encodeFile}
 use Rattle.spec.specs.Result.{underWay, countUnder, fileLeft, resultOf, result}
 use Rattle.spec.specs.Proper.{FileOk}
 use Rattle.laws.specs.Tools.{if-case, if-true}
-use Rattle.laws.specs.Key.{index-onto}
-use Rattle.laws.specs.Turns.Prefix.{fit-32, begins-in, in-begins}
+use Rattle.laws.specs.Turns.Prefix.{fit-32, entry-call, begins-in, in-begins}
 use Rattle.laws.specs.Turns.Good.{Good}
 use Rattle.laws.specs.Turns.Does.{Coherent}
 use Rattle.laws.specs.Turns.Owned.{Busy}
@@ -58,11 +57,11 @@ settled-ok ops s good coherent t n =
       fit = good .fit;
       pages = λ x p. coherent .pages x;
       names = λ e l.
-          let k = index-onto g e (good .fit .depth) l in
+          let k = entry-call (s .file) (good .fit) e l in
           let x = entryAt (s .file) (index g (k .0)) in
           rw (← k .1) (in-begins g (pageAt (s .file) x) (k .0) (coherent .pages x .deep) g32 (coherent .home (k .0)));
       owner = λ e x l p b.
-          let k = index-onto g e (good .fit .depth) l in
+          let k = entry-call (s .file) (good .fit) e l in
           let i = begins-in g (pageAt (s .file) x) (k .0) (coherent .pages x .deep) g32 (rw (← k .1) at b) in
           rw (← k .1) (t .owner x p (λ j. n j x) (k .0) i);
       unused = t .unused;

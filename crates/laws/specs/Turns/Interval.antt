@@ -24,8 +24,7 @@ use Rattle.spec.specs.Turn.{planOf, newCount, goesTo, entriesFrom}
 use Rattle.spec.specs.Run.{stageOf}
 use Rattle.spec.specs.Proper.{In, Fit, PageOk}
 use Rattle.laws.specs.Tools.{if-true, if-false, first, rest, each-at}
-use Rattle.laws.specs.Key.{index-onto}
-use Rattle.laws.specs.Turns.Prefix.{fit-32, begins-in, in-begins}
+use Rattle.laws.specs.Turns.Prefix.{fit-32, entry-call, begins-in, in-begins}
 use Rattle.laws.specs.Turns.Plans.{goes-any, entries-case}
 use Rattle.laws.specs.Turns.Good.{Fine, Good}
 use Rattle.laws.specs.Turns.Work.{Plan, Work}
@@ -138,12 +137,12 @@ module _ (f : File) (op : Op) (x : ℕ) (fit : Fit f) (ok : PageOk (f .g) (f .c)
 
   pub in-goes : (b e : ℕ) → lo ≤ e → e < hi → goesTo f op x b e ≡ 0 → ⊥
   in-goes b e l u z =
-      let k = index-onto (f .g) e (fit .depth) (let t = interval-end in omega arith) in
+      let k = entry-call f fit e (let t = interval-end in omega arith) in
       call-goes b (k .0) (rw (k .1) l) (rw (k .1) u) (rw (k .1) z)
 
   pub goes-in : (b e : ℕ) → e < 2 ^ f .g → (goesTo f op x b e ≡ 0 → ⊥) → (lo ≤ e) × (e < hi)
   goes-in b e w n =
-      let k = index-onto (f .g) e (fit .depth) w in
+      let k = entry-call f fit e w in
       rw (k .1) at (goes-call b (k .0) (λ z. n (rw (k .1) at z)))
 
   pub out-stays : (b e : ℕ) → e < 2 ^ f .g → ((lo ≤ e) × (e < hi) → ⊥) → goesTo f op x b e ≡ 0
@@ -205,7 +204,7 @@ module _ (ops : List Op) (s : State) (i x b n : ℕ) (good : Good ops s) (cohere
       → entryAt f e ≡ x
   still-named j pl h e q l u =
       let t = interval-end f op x (good .fit) (coherent .pages x) pl in
-      let k = index-onto (f .g) e (good .fit .depth) (omega arith) in
+      let k = entry-call f (good .fit) e (omega arith) in
       let v = interval-in f op x (good .fit) (coherent .pages x) pl (k .0) (rw (k .1) l) (rw (k .1) u) in
       rw (k .1) at (h .later (k .0) v (rw (k .1) q))
 

@@ -9,7 +9,7 @@ use Rattle.spec.specs.Key.{pseudoKey, firstBits, index, bit, begins}
 use Rattle.spec.specs.File.{Page, File}
 use Rattle.spec.specs.Split.{digit}
 use Rattle.spec.specs.Proper.{In, Fit}
-use Rattle.laws.specs.Key.{index-lt, firstBits-prefix}
+use Rattle.laws.specs.Key.{index-lt, index-onto, firstBits-prefix}
 
 pub firstBits-half : (l key : ℕ) → l < 32 → firstBits (suc l) key / 2 ≡ firstBits l key
 firstBits-half l key h = let e : suc l - l ≡ 1 = omega arith in rw e at (firstBits-prefix l (suc l) key (omega arith) h)
@@ -18,12 +18,15 @@ pub index-prefix : (l g k : ℕ) → l ≤ g → g ≤ 32 → index g k / 2 ^ (g
 unfolding index
 index-prefix l g k = firstBits-prefix l g (pseudoKey k)
 
--- of a file: every index is an entry's number
+-- of a file: every index is an entry's number, and every entry's number is some call's index
 pub fit-32 : (f : File) → Fit f → f .g ≤ 32
 fit-32 f fit = omega (arith, fit .depth)
 
 pub index-in : (f : File) → Fit f → (k : ℕ) → index (f .g) k < 2 ^ f .g
 index-in f fit k = index-lt (f .g) k (fit-32 f fit)
+
+pub entry-call : (f : File) → Fit f → (e : ℕ) → e < 2 ^ f .g → (call : ℕ) × (index (f .g) call ≡ e)
+entry-call f fit e l = index-onto (f .g) e (fit .depth) l
 
 -- a page's pattern begins the entry of a call exactly if the call is of the page
 pub begins-in : (g : ℕ) (q : Page) (k : ℕ) → q .depth ≤ g → g ≤ 32 → begins g (q .depth) (q .pattern) (index g k) ≡ true → In q k

@@ -27,8 +27,7 @@ use Rattle.spec.specs.Turn.{planOf, newCount, goesTo, begin, looked, reread, cl
 use Rattle.spec.specs.Run.{stageOf}
 use Rattle.spec.specs.Proper.{In}
 use Rattle.laws.specs.Tools.{if-case, first, rest, each-at}
-use Rattle.laws.specs.Key.{index-onto}
-use Rattle.laws.specs.Turns.Prefix.{fit-32, begins-in}
+use Rattle.laws.specs.Turns.Prefix.{fit-32, entry-call, begins-in}
 use Rattle.laws.specs.Turns.Ranges.{Span}
 use Rattle.laws.specs.Turns.Good.{FinePart, Fine, Planned, Good}
 use Rattle.laws.specs.Turns.Work.{Plan, WorkTask, WorkPart, Work}
@@ -108,7 +107,7 @@ module _ (ops : List Op) (s : State) (op : Op) (good : Good ops s) (coherent : C
     where
       names : (e : ℕ) → e < 2 ^ f .g → BeginsAt f (planOf f op x .old) e → entryAt f e ≡ x
       names e l b =
-          let k = index-onto (f .g) e (good .fit .depth) l in
+          let k = entry-call f (good .fit) e l in
           let deep = first (made f op x (good .fit) (coherent .pages x) pl) .ok .deep in
           let i = begins-in (f .g) (planOf f op x .old) (k .0) deep (fit-32 f (good .fit)) (rw (k .1) b) in
           let inside = first (serves f op x (good .fit) (coherent .pages x) pl) .inside (k .0) i in

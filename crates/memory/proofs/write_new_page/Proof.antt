@@ -1,10 +1,9 @@
-use Prim.Native.Nat.{suc, _-_, _≤_}
+use Prim.Native.Nat.{suc, _-_}
 use native.Mathlib.Omega.{arith}
 use lib.ListN.{getD}
 use Rattle.spec.specs.File.{zeroPage}
-use Rattle.spec.specs.Decode.{pageOf}
-use Rattle.spec.specs.Split.{grow, splitCount}
-use Rattle.memory.specs.Memory.{partIn, pageIn}
+use Rattle.spec.specs.Split.{grow}
+use Rattle.memory.specs.Memory.{pageIn}
 use Rattle.memory.specs.Places.{part-room, part-sound}
 use Rattle.memory.specs.Lent.{page-before, lent-copy, rewritten-copy}
 use borrow.Author.Needs.{needs}
