@@ -220,8 +220,9 @@ onePage rs ops turns =
 abbrev times-of : ℕ → ℕ → List ℕ
 times-of n i = replicate n i
 
+-- a full page. Calls 3 and 5 begin with bit 1, as call 1 does, and call 7 with bit 0, as call 4 does
 abbrev full : List Rec
-full = call 2 50 ∷ call 3 70 ∷ call 5 20 ∷ []
+full = call 3 70 ∷ call 5 20 ∷ call 7 50 ∷ []
 
 -- a search and two inserts into a page with room, the second waiting behind the first; then a search
 abbrev roomy : Job
@@ -240,7 +241,7 @@ lateWriter = onePage full (op Insert 4 90 ∷ op Insert 1 10 ∷ []) (times-of 1
 -- the same with a delete, and another delete on the page that it let go
 abbrev released : Job
 released =
-    onePage full (op Insert 4 90 ∷ op Delete 3 0 ∷ op Delete 2 0 ∷ []) (times-of 1 1 ++ times-of 9 0 ++ times-of 8 1 ++ times-of 2 2)
+    onePage full (op Insert 4 90 ∷ op Delete 3 0 ∷ op Delete 7 0 ∷ []) (times-of 1 1 ++ times-of 9 0 ++ times-of 8 1 ++ times-of 2 2)
 
 -- a search between the first turn that writes and the others
 abbrev between : Job
@@ -248,7 +249,7 @@ between = onePage full (op Insert 4 90 ∷ op Search 3 0 ∷ []) (times-of 5 0 +
 
 -- a delete from the middle of a page
 abbrev taken : Job
-taken = onePage full (op Delete 3 0 ∷ []) (times-of 6 0)
+taken = onePage full (op Delete 5 0 ∷ []) (times-of 6 0)
 
 -- two inserts of one call come to a new page before the split is done
 abbrev twoWriters : Job

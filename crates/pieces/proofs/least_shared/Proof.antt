@@ -1,4 +1,4 @@
--- `page::least_shared` meets its contract: the least of all is the least so far or the least among the records that are left.
+-- `pieces::least_shared` meets its contract: the least of all is the least so far or the least among the records that are left.
 use mathlib.Core.Path.{_≡_, sym, _∙_}
 use Prim.Native.Nat.{_+_, _-_, _≤_, min}
 use native.Mathlib.Omega.{arith}

@@ -1,4 +1,4 @@
--- `page::new_piece` meets its contract: by the bit that split i goes by.
+-- `pieces::new_piece` meets its contract: by the bit that split i goes by.
 use mathlib.Core.Path.{_≡_, sym, _∙_}
 use mathlib.Core.Bool.{true, false}
 use Prim.Native.Nat.{_+_, _-_, _≤_}

@@ -1,4 +1,4 @@
--- `page::old_piece` meets its contract: the piece is the piece at depth d.
+-- `pieces::old_piece` meets its contract: the piece is the piece at depth d.
 use mathlib.Core.Path.{_≡_, sym, ap, _∙_}
 use mathlib.Core.Bool.{true, false}
 use Prim.Native.Nat.{ℕ, _+_, _-_, _≤_}

@@ -1,4 +1,4 @@
--- `page::split_count` meets its contract: by the shared bits and the page's depth.
+-- `pieces::split_count` meets its contract: by the shared bits and the page's depth.
 use native.Mathlib.Omega.{arith}
 use Rattle.spec.specs.Split.{splitCount}
 use Rattle.pieces.proofs.split_count.Statement.{statement}

@@ -1,4 +1,4 @@
--- `page::splits` meets its contract: arithmetic.
+-- `pieces::splits` meets its contract: arithmetic.
 use native.Mathlib.Omega.{arith}
 use Rattle.pieces.proofs.splits.Statement.{statement}
 use Rattle.pieces.proofs.splits.Tie as tie

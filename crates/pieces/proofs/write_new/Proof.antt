@@ -1,4 +1,4 @@
--- `page::write_new` meets its contract: the law of the splits (Parts) says which piece new page i is.
+-- `pieces::write_new` meets its contract: the law of the splits (Parts) says which piece new page i is.
 use mathlib.Core.Path.{_≡_, sym, ap, _∙_}
 use Prim.Native.Nat.{_+_, _-_, _≤_}
 use native.Mathlib.Omega.{arith}

@@ -1,4 +1,4 @@
--- `page::write_old` meets its contract: the law of the splits (Parts) says which piece the old page is.
+-- `pieces::write_old` meets its contract: the law of the splits (Parts) says which piece the old page is.
 use mathlib.Core.Path.{_≡_, sym, ap, _∙_}
 use native.Mathlib.Omega.{arith}
 use lib.ListN.{length}

@@ -1,4 +1,4 @@
--- `page::write_piece` meets its contract: the records that begin with the pattern, the call where it is its own page, and the page closed.
+-- `pieces::write_piece` meets its contract: the records that begin with the pattern, the call where it is its own page, and the page closed.
 use Prim.Native.Nat.{_<_}
 use native.Mathlib.Omega.{arith}
 use lib.ListN.{length}
