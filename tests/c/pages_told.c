@@ -87,9 +87,9 @@ static void put_turns(const unsigned *list, unsigned count)
 
 /* Both operations beside the insert read in their entry that page 1 has call 5. The insert moves it
  * to page 2. The delete locks page 1, lets it go and decides in page 2; the search reads page 1,
- * then page 2. (docs/TURNS.md goes through this list of turns.) Of calls 3 and 1, one is beside
- * call 5 and the other is inserted: call 3 belongs to entry 2, as call 5 does, and call 1 to entry
- * 3, so that page 3 is needed too. */
+ * then page 2. (docs/TURNS.md goes through this list of turns, with call 3 beside call 5 and insert
+ * 8.) Calls 3 and 5 belong to entry 2, calls 1 and 8 to entry 3: one of the three is of another
+ * entry than the two others, so that page 3 is needed too. */
 static void run_three(uint32_t beside, uint32_t inserted, uint32_t delete_at)
 {
     static const unsigned list[27] = {1, 2, 0, 0, 1, 0, 0, 0, 0, 0, 0, 0, 0, 2,
@@ -108,15 +108,16 @@ static void run_three(uint32_t beside, uint32_t inserted, uint32_t delete_at)
 
 static void three_operations(void)
 {
-    run_three(3, 1, 0);
-    expect_answer(0, (answer){CHARGEFILE_STORED, 3, 11, charge_of(1)});
+    run_three(3, 8, 0);
+    expect_answer(0, (answer){CHARGEFILE_STORED, 3, 11, charge_of(8)});
     expect_answer(1, (answer){CHARGEFILE_DELETED, 2, 9, charge_of(5)});
     expect_line(0, 10, 0);
     expect_line(1, 23, 2);
     expect_line(2, 24, 1);
 }
 
-/* The same with the insert of (C): its call goes to page 2 as well, and is stored with entry 2. */
+/* The same with the calls of (C), 1 beside 5 and insert 3: it goes to page 2 as well, and is stored with
+ * entry 2. */
 static void three_in_one_page(void)
 {
     run_three(1, 3, 0);
@@ -131,8 +132,8 @@ static void three_in_one_page(void)
  * afterwards. */
 static void three_with_another_charge(void)
 {
-    run_three(3, 1, charge_of(3));
-    expect_answer(0, (answer){CHARGEFILE_STORED, 3, 11, charge_of(1)});
+    run_three(3, 8, charge_of(3));
+    expect_answer(0, (answer){CHARGEFILE_STORED, 3, 11, charge_of(8)});
     expect_answer(1, (answer){CHARGEFILE_DIFFERS, 2, 8, charge_of(5)});
     expect_line(1, 22, 1);
 }

@@ -2,7 +2,9 @@
 
 use std::collections::BTreeSet;
 
-use chargefile_tests::key::{call_with, index, leading_bit, neighbour, pseudo_key, shared_bits};
+use chargefile_tests::key::{
+    begins, call_with, index, leading_bit, neighbour, pseudo_key, shared_bits,
+};
 use chargefile_tests::random::Random;
 use chargefile_tests::seeds::each_seed;
 
@@ -11,6 +13,11 @@ const CALLS: u64 = 20_000;
 /// One byte more, as the machine multiplies.
 fn one_more(key: u32, byte: u8) -> u32 {
     (key ^ u32::from(byte)).wrapping_mul(16_777_619)
+}
+
+/// The key as the machine multiplies: modulo 2^32 by itself.
+fn machine_key(call: u32) -> u32 {
+    call.to_le_bytes().into_iter().fold(0x811c_9dc5, one_more)
 }
 
 /// The published values of the texts "foob" and "foobar": the first is a call's four bytes, the second goes on from there with two bytes more.
@@ -107,12 +114,34 @@ fn the_key_on_paper_and_by_the_machine() {
         let call = some_call(&mut Random::new(seed, "key on paper"));
         let key = pseudo_key(call);
         assert_eq!(bits(key), on_paper(call), "{call}");
-        let bytes = call.to_le_bytes().into_iter();
-        assert_eq!(key, bytes.fold(0x811c_9dc5, one_more), "{call}");
+        assert_eq!(key, machine_key(call), "{call}");
         // the bits from the front are those of the paper from the back
         for (position, bit) in on_paper(call).into_iter().rev().enumerate() {
             assert_eq!(leading_bit(call, position as u32), bit);
         }
+    });
+}
+
+/// What is asked of keys, by shifts and leading zeros.
+#[test]
+fn keys_agree_with_the_machine() {
+    each_seed(CALLS, |seed| {
+        let random = &mut Random::new(seed, "keys");
+        let (one, other) = (random.word(), random.word() << random.below(32));
+        let key = machine_key(one);
+        assert_eq!(pseudo_key(one), key);
+        assert_eq!(shared_bits(pseudo_key(one), key), 32);
+        let near = one ^ other;
+        assert_eq!(shared_bits(one, near), other.leading_zeros());
+        assert_eq!(shared_bits(one, one), 32);
+        for depth in 1..=8 {
+            let first = (key >> (32 - depth)) as usize;
+            assert_eq!(index(one, depth), first);
+            assert!(begins(first as u32, depth, first, depth));
+            let made = call_with(first as u32, depth, other);
+            assert_eq!(index(made, depth), first);
+        }
+        assert_eq!(index(one, 0), 0);
     });
 }
 

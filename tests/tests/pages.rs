@@ -1,7 +1,6 @@
-//! Pseudo keys, pages and splits on their own ("The file"; "Insert into a full
-//! page").
+//! Pages and splits on their own ("The file"; "Insert into a full page").
 
-use chargefile_tests::key::{begins, call_with, index, pseudo_key, shared_bits};
+use chargefile_tests::key::{call_with, index};
 use chargefile_tests::one_key::some_group_with;
 use chargefile_tests::page::{page_length, Page, Record};
 use chargefile_tests::random::Random;
@@ -9,34 +8,6 @@ use chargefile_tests::seeds::each_seed;
 use chargefile_tests::split::{new_pages_needed, split, Full, Split};
 
 const PAGES: u64 = 20_000;
-
-#[test]
-fn keys_agree_with_the_machine() {
-    each_seed(PAGES, |seed| {
-        let random = &mut Random::new(seed, "keys");
-        let (one, other) = (random.word(), random.word() << random.below(32));
-        let key = machine_key(one);
-        assert_eq!(pseudo_key(one), key);
-        assert_eq!(shared_bits(pseudo_key(one), key), 32);
-        let near = one ^ other;
-        assert_eq!(shared_bits(one, near), other.leading_zeros());
-        assert_eq!(shared_bits(one, one), 32);
-        for depth in 1..=8 {
-            let first = (key >> (32 - depth)) as usize;
-            assert_eq!(index(one, depth), first);
-            assert!(begins(first as u32, depth, first, depth));
-            let made = call_with(first as u32, depth, other);
-            assert_eq!(index(made, depth), first);
-        }
-        assert_eq!(index(one, 0), 0);
-    });
-}
-
-/// The pseudo key as the machine multiplies: modulo 2^32 by itself.
-fn machine_key(call: u32) -> u32 {
-    let mix = |key: u32, byte: u8| (key ^ u32::from(byte)).wrapping_mul(16_777_619);
-    call.to_le_bytes().into_iter().fold(2_166_136_261, mix)
-}
 
 /// A page with random records that belong in it; at times some of them have one
 /// key, and the others share some bits beyond the pattern.

@@ -5,7 +5,7 @@ ghost use lib.Dec.{eqb};
 ghost use Rattle.spec.specs.Key.{mixed, pseudoKey, firstBits, index, shared};
 
 // Multiplication modulo 2^32: the remainder of the whole product, which has at most 64 bits.
-pub fn times(a: u32, b: u32) -> u32
+fn times(a: u32, b: u32) -> u32
     ensures { λ r. ⌜ r ≡ a * b % 2 ^ 32 ⌝ }
 {
     ((a as u64) * (b as u64) % 4294967296) as u32

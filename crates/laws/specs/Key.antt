@@ -34,14 +34,14 @@ pub index-lt : (d call : ℕ) → d ≤ 32 → index d call < 2 ^ d
 unfolding index
 index-lt d call h = firstBits-lt d (pseudoKey call) h (key-lt call)
 
--- the bits of a key are those of the call whose pseudo key it is
-pub bits-of : (d key call : ℕ) → key ≡ pseudoKey call → firstBits d key ≡ index d call
+-- what is told of a key's bits is so of the call whose pseudo key it is
+pub bits-of : (d call : ℕ) {key i : ℕ} → i ≡ firstBits d key → key ≡ pseudoKey call → i ≡ index d call
 unfolding index
-bits-of d key call e = ap (firstBits d) e
+bits-of d call h e = h ∙ ap (firstBits d) e
 
-pub bit-of : (d key call : ℕ) → key ≡ pseudoKey call → eqb (firstBits (suc d) key % 2) 1 ≡ bit d call
+pub bit-of : (d call : ℕ) {key : ℕ} {v : Bool} → v ≡ eqb (firstBits (suc d) key % 2) 1 → key ≡ pseudoKey call → v ≡ bit d call
 unfolding bit
-bit-of d key call e = ap (λ i. eqb (i % 2) 1) (bits-of (suc d) key call e)
+bit-of d call h e = h ∙ ap (λ i. eqb (i % 2) 1) (bits-of (suc d) call refl e)
 
 -- a test that holds of all numbers below n
 allBelow : (ℕ → Bool) → ℕ → Bool

@@ -49,6 +49,7 @@ pub fn splits(least: usize, depth: usize) -> usize
     if depth <= end { end - depth } else { 0 }
 }
 
+// The same of a page, for an insert of this call.
 pub fn split_count(page: &[u8], call: u32) -> usize
     requires { ⌜ pageSize (byte (now page) 1) ≤ length (now page) ⌝ }
     ensures { λ r. ⌜ r ≡ splitCount (pageOf (now (page .entry))) call ⌝ }

@@ -82,6 +82,7 @@ marked =
     (key 1 ⇒ number 0xfb69b604)  -- A
     ∷ (key 6 ⇒ number 0xab3d76f3)
     ∷ (key 0 ⇒ number 0x4b95f515)
+    ∷ (key 0x626f6f66 ⇒ number 0x3f5076ef)  -- "as published": the call whose bytes are the text foob
     ∷ (job jobB ⇒ ran resultB)  -- B
     ∷ (print jobB ⇒ bytes textB)
     ∷ (list jobB ⇒ holds replayB (4 => 90 ∷ 2 => 50 ∷ []))

@@ -4,7 +4,7 @@ use mathlib.Core.Bool.{true, false}
 use Prim.Native.Nat.{_+_, _-_, _≤_}
 use native.Mathlib.Omega.{arith}
 use lib.Pow.{pow-mono}
-use Rattle.spec.specs.Key.{index, bit}
+use Rattle.spec.specs.Key.{bit}
 use Rattle.laws.specs.Key.{bits-of, bit-of}
 use Rattle.pieces.specs.PieceLaws.{new-one, new-zero, side-one}
 use Rattle.pieces.proofs.new_piece.Statement.{statement}
@@ -40,7 +40,7 @@ returns c =
     let own = c .before .before .before .pseudo-key in
     let a = c .before .before .before .before .args in
     let d = a .depth + (a .i - 1) in
-    let one : bit d (a .call) ≡ true = sym (bit-of d (own .result) (a .call) (own .ensures)) ∙ sym (c .before .before .bit .ensures) ∙ c .before .if1 .taken in
+    let one : bit d (a .call) ≡ true = sym (bit-of d (a .call) (c .before .before .bit .ensures) (own .ensures)) ∙ c .before .if1 .taken in
     c .old-piece .ensures ∙ sym (new-one (a .n - a .i) d (a .call) one)
 
 add-t7 : tie.Need-add-t7
@@ -60,8 +60,8 @@ returns-2 c =
     let own = c .before .before .before .pseudo-key in
     let a = c .before .before .before .before .args in
     let d = a .depth + (a .i - 1) in
-    let no : bit d (a .call) ≡ false = sym (bit-of d (own .result) (a .call) (own .ensures)) ∙ sym (c .before .before .bit .ensures) ∙ c .before .if1 .left in
-    let bits : c .first-bits .result ≡ index d (a .call) = c .first-bits .ensures .0 ∙ bits-of d (own .result) (a .call) (own .ensures) in
+    let no : bit d (a .call) ≡ false = sym (bit-of d (a .call) (c .before .before .bit .ensures) (own .ensures)) ∙ c .before .if1 .left in
+    let bits = bits-of d (a .call) (c .first-bits .ensures .0) (own .ensures) in
     sym (new-zero (a .n - a .i) d (a .call) no ∙ side-one d (a .call) (c .first-bits .result) bits)
 
 pub new-piece-spec : {M : Type 1} → statement M

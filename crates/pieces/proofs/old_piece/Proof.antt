@@ -4,7 +4,7 @@ use mathlib.Core.Bool.{true, false}
 use Prim.Native.Nat.{ℕ, _+_, _-_, _≤_}
 use native.Mathlib.Omega.{arith}
 use lib.Pow.{pow-mono}
-use Rattle.spec.specs.Key.{index, bit}
+use Rattle.spec.specs.Key.{bit}
 use Rattle.laws.specs.Key.{bits-of, bit-of}
 use Rattle.pieces.specs.Piece.{ownPiece, keptPiece}
 use Rattle.pieces.specs.PieceLaws.{kept-one, kept-zero, kept-own, side-zero}
@@ -48,8 +48,8 @@ returns c =
     let own = c .before .before .before .before .before .pseudo-key in
     let a = c .before .before .before .before .before .before .args in
     let d = c .before .before .before .before .loop .d in
-    let one : bit d (a .call) ≡ true = sym (bit-of d (own .result) (a .call) (own .ensures)) ∙ sym (c .before .before .bit .ensures) ∙ c .before .if1 .taken in
-    let bits : c .first-bits .result ≡ index d (a .call) = c .first-bits .ensures .0 ∙ bits-of d (own .result) (a .call) (own .ensures) in
+    let one : bit d (a .call) ≡ true = sym (bit-of d (a .call) (c .before .before .bit .ensures) (own .ensures)) ∙ c .before .if1 .taken in
+    let bits = bits-of d (a .call) (c .first-bits .ensures .0) (own .ensures) in
     sym (c .before .before .before .before .loop .inv .1 ∙ kept-one (a .depth + a .n) d (a .call) (omega arith) one ∙ side-zero d (a .call) (c .first-bits .result) bits)
 
 add-d : tie.Need-add-d Inv-loop μ-loop
@@ -63,7 +63,7 @@ loop-again c =
     let own = c .before .before .before .before .pseudo-key in
     let a = c .before .before .before .before .before .args in
     let d = c .before .before .before .loop .d in
-    let no : bit d (a .call) ≡ false = sym (bit-of d (own .result) (a .call) (own .ensures)) ∙ sym (c .before .bit .ensures) ∙ c .if1 .left in
+    let no : bit d (a .call) ≡ false = sym (bit-of d (a .call) (c .before .bit .ensures) (own .ensures)) ∙ c .if1 .left in
     (omega arith, c .before .before .before .loop .inv .1 ∙ kept-zero (a .depth + a .n) d (a .call) (omega arith) no)
 
 first-bits-requires-2 : tie.Need-first-bits-requires-2 Inv-loop μ-loop
@@ -75,7 +75,7 @@ returns-2 c =
     let own = c .before .before .before .pseudo-key in
     let a = c .before .before .before .before .args in
     let d = c .before .before .loop .d in
-    let bits : c .first-bits2 .result ≡ index (a .depth + a .n) (a .call) = c .first-bits2 .ensures .0 ∙ bits-of (a .depth + a .n) (own .result) (a .call) (own .ensures) in
+    let bits = bits-of (a .depth + a .n) (a .call) (c .first-bits2 .ensures .0) (own .ensures) in
     sym (c .before .before .loop .inv .1 ∙ kept-own (a .depth + a .n) d (a .call) (omega arith) ∙ rw (← bits))
 
 pub old-piece-spec : {M : Type 1} → statement M

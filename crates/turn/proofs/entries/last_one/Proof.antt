@@ -61,9 +61,7 @@ same-bit
     : (c : tie.After-bit Inv-loop μ-loop)
     → c .bit .result
     ≡ bit (c .before .before .before .before .before .before .args .d + c .before .before .before .before .loop .k) (c .before .before .before .before .before .before .args .call)
-same-bit c =
-    let own = c .before .before .before .before .before .pseudo-key in
-    c .bit .ensures ∙ bit-of _ (own .result) _ (own .ensures)
+same-bit c = bit-of _ _ (c .bit .ensures) (c .before .before .before .before .before .pseudo-key .ensures)
 
 returns : tie.Need-returns Inv-loop μ-loop
 returns c =
