@@ -1,4 +1,4 @@
-//! docs/FORMAT.md: its dumps are the bytes, its worked refusals are what is printed, and the sums beside them come out.
+//! docs/FORMAT.md: its dumps are the bytes, its worked pseudo key is the key, its worked refusals are what is printed, and the sums beside them come out.
 
 use std::fs;
 use std::iter::Peekable;
@@ -7,6 +7,7 @@ use std::str::Chars;
 
 use chargefile_tests::damage::NUMBERS;
 use chargefile_tests::examples::{examples, Example};
+use chargefile_tests::key::pseudo_key;
 use chargefile_tests::run::result_bytes;
 use chargefile_tests::{check, report, tidy, Outcome};
 
@@ -58,6 +59,32 @@ fn the_dump_of_job_e() {
 fn the_dump_of_its_result() {
     let result = result_bytes(&job_e());
     assert_eq!(dump(&document(), "### Its result"), result);
+}
+
+/// The numbers of a line of a table, if all of them are hexadecimal.
+fn numbers(line: &str) -> Option<Vec<u64>> {
+    let cells = line.strip_prefix("| ")?.strip_suffix(" |")?.split(" | ");
+    cells
+        .map(|cell| u64::from_str_radix(cell, 16).ok())
+        .collect()
+}
+
+/// The pseudo key of call 6, byte after byte: each line goes on from the one before, and the last has the key.
+#[test]
+fn the_worked_pseudo_key() {
+    let text = document();
+    let lines = section(&text, "## A job").into_iter();
+    let worked: Vec<Vec<u64>> = lines.filter_map(numbers).filter(|n| n[1] > 255).collect();
+    let bytes: Vec<u64> = worked.iter().map(|line| line[0]).collect();
+    assert_eq!(bytes, 6u32.to_le_bytes().map(u64::from));
+    let mut key = 2_166_136_261;
+    for line in worked {
+        let mixed = key ^ line[0];
+        assert_eq!(line[1..3], [key, mixed]);
+        key = mixed * 0x100_0193 % (1 << 32);
+        assert_eq!(line[3], key);
+    }
+    assert_eq!(key, u64::from(pseudo_key(6)));
 }
 
 /// Job E with the change that a line of the table describes.
