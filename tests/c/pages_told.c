@@ -106,26 +106,28 @@ static void run_three(uint32_t beside, uint32_t inserted, uint32_t delete_at)
     expect_answer(2, (answer){CHARGEFILE_FOUND, 2, 4, charge_of(5)});
 }
 
-static void three_operations(void)
+/* The insert is stored in this page, at this moment; the delete strikes call 5 out after the search
+ * has found it. */
+static void expect_three(uint32_t beside, uint32_t inserted, unsigned page, unsigned moment)
 {
-    run_three(3, 8, 0);
-    expect_answer(0, (answer){CHARGEFILE_STORED, 3, 11, charge_of(8)});
+    run_three(beside, inserted, 0);
+    expect_answer(0, (answer){CHARGEFILE_STORED, page, 11, charge_of(inserted)});
     expect_answer(1, (answer){CHARGEFILE_DELETED, 2, 9, charge_of(5)});
-    expect_line(0, 10, 0);
+    expect_line(0, moment, 0);
     expect_line(1, 23, 2);
     expect_line(2, 24, 1);
 }
 
-/* The same with the calls of (C), 1 beside 5 and insert 3: it goes to page 2 as well, and is stored with
- * entry 2. */
+static void three_operations(void)
+{
+    expect_three(3, 8, 3, 10);
+}
+
+/* The same with the calls of (C), 1 beside 5 and insert 3: it goes to page 2 as well, and is stored
+ * with entry 2. */
 static void three_in_one_page(void)
 {
-    run_three(1, 3, 0);
-    expect_answer(0, (answer){CHARGEFILE_STORED, 2, 11, charge_of(3)});
-    expect_answer(1, (answer){CHARGEFILE_DELETED, 2, 9, charge_of(5)});
-    expect_line(0, 9, 0);
-    expect_line(1, 23, 2);
-    expect_line(2, 24, 1);
+    expect_three(1, 3, 2, 9);
 }
 
 /* The same with a delete at another charge: it decides on turn 22, and the search finds the call
