@@ -63,3 +63,6 @@ pub mod Fields
 pub mod Full
 -- the page that is told with an answer
 pub mod PageTold
+-- how many turns an operation has used, by its stage; how many it uses at most
+pub mod Spent
+pub mod SpentTurns

@@ -30,6 +30,7 @@ pub mod Tidy
 -- what is claimed
 pub mod Proper
 pub mod Claims
+pub mod MostTurns
 pub mod Tidied
 pub mod Months
 -- by computation: the marked items, the refusal table, files tidied

@@ -109,6 +109,10 @@ module _ (f : File) (op : Op) (x : ℕ) (fit : Fit f) (ok : PageOk (f .g) (f .c)
   same-start : startOf (f .g) old ≡ startOf (f .g) (pageAt f x)
   same-start = lowest-start (f .g) _ (pageAt f x) old old-deep (plan-low f op x)
 
+  -- the page's first entry stays
+  pub start-stays : startOf (f .g) (pageAt f x) < lo
+  start-stays = omega (arith, same-start, end-start (f .g) old, pow-pos (f .g - old .depth))
+
   -- an entry in the interval is of the page, and goes to a new one; and an entry that goes is in the interval
   pub interval-begins : (e : ℕ) → lo ≤ e → e < hi → begins (f .g) (pageAt f x .depth) (pageAt f x .pattern) e ≡ true
   interval-begins e l u = range-begins (f .g) (pageAt f x) e (omega (arith, end-start (f .g) old, same-start)) u

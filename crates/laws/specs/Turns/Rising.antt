@@ -244,12 +244,21 @@ module _ (ops : List Op) (s : State) (i : ℕ) (m : Move)
         (entry e)
 
     -- the page that an entry names is as deep as the one that it named, or deeper
-    entry-deep : (e : ℕ) → pageAt f (entryAt f e) .depth ≤ pageAt f' (entryAt f' e) .depth
+    pub entry-deep : (e : ℕ) → pageAt f (entryAt f e) .depth ≤ pageAt f' (entryAt f' e) .depth
     unfolding entryAt
     entry-deep e =
         ⊎-elim (λ a. rw (a .names) (page (entryAt f e) (named i e _ refl) .deep))
         (λ a. rw (page-kept e (entryAt f' e) (a .up)) (omega (arith, a .deeper)))
         (entry e)
+
+    -- and it is deeper, where the entry names another page
+    pub entry-deeper
+        : (e : ℕ)
+        → (entryAt f' e ≡ entryAt f e → ⊥)
+        → pageAt f (entryAt f e) .depth < pageAt f' (entryAt f' e) .depth
+    unfolding entryAt
+    entry-deeper e n =
+        ⊎-elim (λ a. absurd (n (a .names))) (λ a. rw (page-kept e (entryAt f' e) (a .up)) (a .deeper)) (entry e)
 
     deeper-after
         : (e x : ℕ)
