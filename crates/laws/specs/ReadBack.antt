@@ -36,7 +36,8 @@ use Rattle.laws.specs.Turns.States.{stateAt-end, run-now}
 use Rattle.laws.specs.Turns.Narrow.{EveryRecord, run-every}
 use Rattle.laws.specs.Turns.Fields.{cut, cut-run}
 use Rattle.laws.specs.Turns.Log.{log-says, log-rows}
-use Rattle.laws.specs.Turns.Sizes.{used-le, log-le, code-small}
+use Rattle.laws.specs.Turns.Sizes.{log-le, code-small}
+use Rattle.laws.specs.Turns.SpentTurns.{used-end}
 use Rattle.laws.specs.Turns.PageTold.{untold, told-used, page-small}
 use Rattle.laws.specs.Turns.Theorem.{answer-count}
 
@@ -119,7 +120,7 @@ module _ (b : List ℕ) (bytes : AreBytes b) (accepted : jobFault b ≡ none) wh
         code = code-small j (proper .file) i;
         untold = untold j (proper .file) i;
         page = λ n. (told-used j (proper .file) i n .0, page-small j (proper .file) i);
-        used = omega (arith, used-le j i, proper .turnCount);
+        used = omega (arith, used-end j (proper .file) i);
         charge = narrow j proper .1 i;
       }))
 

@@ -1,17 +1,15 @@
 -- The least result buffer is enough: the result of an accepted job has at most 24 + 12m bytes and the charge file's.
 use Prim.Native.Nat.{ℕ, _≤_}
-use mathlib.Core.Path.{_≡_, refl}
+use mathlib.Core.Path.{_≡_}
 use mathlib.Core.List.{List}
 use mathlib.Core.Option.{none}
 use native.Mathlib.Omega.{arith}
 use lib.ListN.{length, length-map}
 use borrow.Author.Tests.{eqb-true}
-use Rattle.spec.specs.File.{File}
 use Rattle.spec.specs.Job.{Job, tableOffset, opsOffset, fileLength}
 use Rattle.spec.specs.Encode.{headerFor}
 use Rattle.spec.specs.Decode.{headerOf, fileOf, jobOf}
-use Rattle.spec.specs.State.{State}
-use Rattle.spec.specs.Run.{start, run}
+use Rattle.spec.specs.Run.{run}
 use Rattle.spec.specs.Result.{toldOf, fileBytes, fileLeft, resultOf, result}
 use Rattle.spec.specs.Check.{jobFault, resultSize}
 use Rattle.spec.specs.Outcome.{resultBytes}
@@ -20,25 +18,9 @@ use Rattle.laws.specs.Tools.{if-case}
 use Rattle.laws.specs.Codec.Rows.{counted}
 use Rattle.laws.specs.Codec.Accepted.{accepted-file}
 use Rattle.laws.specs.Codec.Sizes.{length-file, length-result}
-use Rattle.laws.specs.Turns.Rows.{step-case, steps-keep}
 use Rattle.laws.specs.Turns.Whole.{end-whole}
 use Rattle.laws.specs.Turns.Again.{final-ok}
-use Rattle.laws.specs.Turns.Sizes.{log-le}
-
--- no turn changes depth, capacity and page count
-pub record Shaped (f : File) (s : State) : Type 0 where
-  pub depth : s .file .g ≡ f .g
-  pub capacity : s .file .c ≡ f .c
-  pub limit : s .file .limit ≡ f .limit
-
-pub run-shaped : (j : Job) → Shaped (j .file) (run j)
-unfolding run start
-run-shaped j =
-    steps-keep (Shaped (j .file)) (j .ops)
-    (λ s i h.
-    step-case (Shaped (j .file)) (j .ops) s i (record { depth = h .depth; capacity = h .capacity; limit = h .limit })
-    (λ l e. record { depth = h .depth; capacity = h .capacity; limit = h .limit })) _ (j .turns)
-    (record { depth = refl; capacity = refl; limit = refl })
+use Rattle.laws.specs.Turns.Sizes.{log-le, run-shaped}
 
 -- a charge file is as long after the run as it was before
 file-room : (j : Job) → FileOk (j .file) → length (fileBytes (result j .file)) ≤ fileLength (headerFor (j .file) 0 0)

@@ -13,7 +13,7 @@ use Rattle.spec.specs.Result.{resultOf, result}
 use Rattle.spec.specs.Check.{workSize, resultSize}
 use Rattle.spec.specs.Claims.{stateAt}
 use Rattle.spec.specs.Outcome.{resultBytes}
-use Rattle.laws.specs.Room.{run-shaped}
+use Rattle.laws.specs.Turns.Sizes.{run-shaped}
 use Rattle.laws.specs.Turns.PageTold.{untold, page-small}
 use Rattle.laws.specs.Turns.States.{stateAt-end, run-now}
 use Rattle.laws.specs.Turns.Whole.{Whole, end-whole}

@@ -21,6 +21,7 @@ use Rattle.laws.specs.Codec.Sizes.{bytes-total}
 use Rattle.laws.specs.ReadBack.{reads}
 use Rattle.laws.specs.Demand3.{demand3}
 use Rattle.laws.specs.PagesTold.{pages-behind}
+use Rattle.laws.specs.MostTurns.{at-most}
 use Rattle.header.specs.declared.Header.{Header}
 use Rattle.header.specs.Counts.{countsOf}
 use Rattle.turn.specs.declared.Row.{Row}
@@ -105,6 +106,7 @@ module _ {b s : List ℕ} {x : List Row} {w : List ℕ} (a : Accepted b s x w) w
         total = ap Done (r .total ∙ bytes-total b ∙ sym (ap (λ (z : Result). z .total) back));
         explained = rw (r .result) (demand3 b (drop (length (resultBytes b)) s) (a .bytes) faultless);
         told = rw (r .result) (pages-behind b (drop (length (resultBytes b)) s) (a .bytes) faultless);
+        within = rw (r .result) (at-most b (drop (length (resultBytes b)) s) (a .bytes) faultless);
       }
 
   pub ran : {t : List ℕ} {y : List Row} {u : List ℕ} {v : ℕ} → Ran b s t x y w u v → Settled b s t x y w u (Done v)

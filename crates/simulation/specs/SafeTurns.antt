@@ -23,7 +23,7 @@ use Rattle.laws.specs.Codec.Proper.{JobProper}
 use Rattle.laws.specs.Turns.Good.{Fine}
 use Rattle.laws.specs.Turns.Work.{Plan, WorkTask, Work}
 use Rattle.laws.specs.Turns.Slots.{found-slot}
-use Rattle.laws.specs.Turns.Fields.{used-at}
+use Rattle.laws.specs.Turns.SpentTurns.{used-at}
 use Rattle.laws.specs.Turns.Full.{FullPage, Full, full-count}
 use Rattle.memory.specs.declared.Shape.{Shape}
 use Rattle.memory.specs.Memory.{turnIn}

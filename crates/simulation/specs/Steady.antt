@@ -15,7 +15,7 @@ use Rattle.spec.specs.Claims.{stateAt}
 use Rattle.laws.specs.Codec.Back.{RecFits, PageFits}
 use Rattle.laws.specs.Codec.Proper.{JobProper}
 use Rattle.laws.specs.ReadBack.{narrow-at}
-use Rattle.laws.specs.Room.{Shaped, run-shaped}
+use Rattle.laws.specs.Turns.Sizes.{Shaped, run-shaped}
 use Rattle.laws.specs.Turns.Good.{Good}
 use Rattle.laws.specs.Turns.Does.{Coherent}
 use Rattle.laws.specs.Turns.Settled.{Settled}

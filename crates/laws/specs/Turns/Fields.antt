@@ -6,7 +6,7 @@ use mathlib.Core.Logic.{by-cases}
 use mathlib.Core.Option.{Option}
 use native.Mathlib.Omega.{arith}
 use native.Mathlib.Decide.{ℕ-discrete}
-use lib.ListN.{length, getD, take, length-take}
+use lib.ListN.{length, getD, take}
 use lib.Pow.{pow-mono}
 use Rattle.spec.specs.declared.Rec.{Rec}
 use Rattle.spec.specs.declared.Op.{Op}
@@ -30,7 +30,6 @@ use Rattle.laws.specs.Turns.Coherent.{i-does}
 use Rattle.laws.specs.Turns.Reads.{Reads}
 use Rattle.laws.specs.Turns.States.{hist, firstTurn, who, stateAt-now, row-at}
 use Rattle.laws.specs.Turns.Whole.{whole}
-use Rattle.laws.specs.Turns.Sizes.{used-le}
 use Rattle.laws.specs.Turns.Depths.{plan-most}
 
 -- the numbers of a stage, before turn t
@@ -106,10 +105,6 @@ cut j t = record { file = j .file; ops = j .ops; turns = take t (j .turns) }
 pub cut-run : (j : Job) (t : ℕ) → run (cut j t) ≡ stateAt j t
 unfolding cut run stateAt
 cut-run j t = refl
-
-pub used-at : (j : Job) (i t : ℕ) → rowOf (stateAt j t) i .used ≤ t
-unfolding cut
-used-at j i t = rw (← cut-run j t) (omega (arith, used-le (cut j t) i, length-take t (j .turns)))
 
 -- a row without an answer has charge 0, page 0 and moment 0
 pub record Unanswered (r : Row) : Type 0 where

@@ -9,17 +9,17 @@ use lib.ListN.{length}
 use lib.Dec.{eqb}
 use borrow.Author.Tests.{eqb-true, eqb-false}
 use Rattle.spec.specs.Basics.{if, Each}
+use Rattle.spec.specs.File.{File}
 use Rattle.spec.specs.Job.{Job}
 use Rattle.spec.specs.Code.{notYet}
-use Rattle.spec.specs.State.{Row, State, Move, gone}
-use Rattle.spec.specs.Run.{rowAfter, rowOf, tick, act, step, start, run}
+use Rattle.spec.specs.State.{State}
+use Rattle.spec.specs.Run.{rowOf, start, run}
 use Rattle.spec.specs.Result.{Line, logOf, resultOf, result}
 use Rattle.spec.specs.Proper.{FileOk}
 use Rattle.spec.specs.Claims.{times}
-use Rattle.laws.specs.Tools.{if-case, first, rest, each-imp, set-all}
-use Rattle.laws.specs.Turns.Rows.{step-case, steps-keep, first-row}
+use Rattle.laws.specs.Tools.{if-case, first, rest, each-imp}
+use Rattle.laws.specs.Turns.Rows.{step-case, steps-keep}
 use Rattle.laws.specs.Turns.Says.{says-code}
-use Rattle.laws.specs.Turns.States.{run-now}
 use Rattle.laws.specs.Turns.Whole.{Whole, end-whole}
 use Rattle.laws.specs.Turns.Log.{times-nil, times-cons, times-skip, log-once, log-other, log-rows}
 
@@ -71,29 +71,20 @@ tally-answered s h (suc m) =
     if-case (λ n. tally m (logOf s) + times m (logOf s) ≡ n) (λ e. let b = log-other s m (eqb-true _ _ e) in omega arith)
     (λ e. let n : rowOf s m .code ≡ notYet → ⊥ = eqb-false _ _ e in let b = log-once s m n (h m n) in omega arith)
 
--- the turns used are no more than the turns gone by
-abbrev Used : State → Type 0
-Used s = (j : ℕ) → rowOf s j .used ≤ s .now
+-- no turn changes depth, capacity and page count
+pub record Shaped (f : File) (s : State) : Type 0 where
+  pub depth : s .file .g ≡ f .g
+  pub capacity : s .file .c ≡ f .c
+  pub limit : s .file .limit ≡ f .limit
 
-used-act : (s : State) (i : ℕ) (m : Move) → Used s → Used (act s i m)
-unfolding rowOf
-used-act s i m h =
-    set-all (λ (r : Row). r .used ≤ s .now + 1) (s .rows) i (rowAfter m (rowOf s i)) gone (omega (arith, h i)) (λ k. omega (arith, h k))
-
-used-tick : (s : State) → Used s → Used (tick s)
-unfolding rowOf
-used-tick s h j = omega (arith, h j)
-
-start-used : (j : Job) → Used (start (j .file) (length (j .ops)))
-unfolding start rowOf
-start-used j i = first-row (λ r. r .used ≤ 0) (omega arith) (omega arith) (length (j .ops)) i
-
-pub used-le : (j : Job) (i : ℕ) → rowOf (run j) i .used ≤ length (j .turns)
-unfolding run
-used-le j i = omega (arith, steps-keep Used (j .ops) used-step _ (j .turns) (start-used j) i, run-now j)
-  where
-    used-step : (s : State) (i : ℕ) → Used s → Used (step (j .ops) s i)
-    used-step s i h = step-case Used (j .ops) s i (used-tick s h) (λ lt e. used-act s i _ h)
+pub run-shaped : (j : Job) → Shaped (j .file) (run j)
+unfolding run start
+run-shaped j =
+    steps-keep (Shaped (j .file)) (j .ops)
+    (λ s i h.
+    step-case (Shaped (j .file)) (j .ops) s i (record { depth = h .depth; capacity = h .capacity; limit = h .limit })
+    (λ l e. record { depth = h .depth; capacity = h .capacity; limit = h .limit })) _ (j .turns)
+    (record { depth = refl; capacity = refl; limit = refl })
 
 module _ (j : Job) (ok : FileOk (j .file)) where
   w : Whole j (run j)

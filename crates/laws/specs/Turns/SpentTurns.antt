@@ -9,7 +9,7 @@ use native.Mathlib.Omega.{arith}
 use native.Mathlib.Nat.{le-refl}
 use native.Mathlib.Decide.{decLt}
 use lib.Pow.{pow-pos, pow-mono}
-use lib.ListN.{length, getD, List·getD-eq-default}
+use lib.ListN.{length, getD, take, List·getD-eq-default}
 use lib.Seq.{getD-set-other}
 use borrow.Author.Tests.{eqb-true, eqb-false}
 use Rattle.spec.specs.declared.Rec.{Rec}
@@ -31,7 +31,7 @@ use Rattle.spec.specs.Proper.{FileOk}
 use Rattle.spec.specs.Claims.{stateAt}
 use Rattle.spec.specs.MostTurns.{longest, mostTurns, sharpTurns, under, usedBy, kindAt, mostUsed}
 use Rattle.laws.specs.Tools.{if-case}
-use Rattle.laws.specs.Turns.Rows.{still, row-after, step-case, steps-keep, first-row}
+use Rattle.laws.specs.Turns.Rows.{still, row-after, step-case, first-row}
 use Rattle.laws.specs.Turns.Plans.{Next, entries-case}
 use Rattle.laws.specs.Turns.Good.{Fine, Good, other-page}
 use Rattle.laws.specs.Turns.Legal.{i-legal}
@@ -42,6 +42,7 @@ use Rattle.laws.specs.Turns.Coherent.{i-does}
 use Rattle.laws.specs.Turns.Codes.{NoSearch, CodeAt}
 use Rattle.laws.specs.Turns.States.{who, stateAt-suc, stateAt-zero, stateAt-end}
 use Rattle.laws.specs.Turns.Whole.{Whole, whole, end-whole}
+use Rattle.laws.specs.Turns.Sizes.{run-shaped}
 use Rattle.laws.specs.Turns.Writes.{Writes, i-writes}
 use Rattle.laws.specs.Turns.Rising.{Rising, rising, entry-deep, entry-deeper}
 use Rattle.laws.specs.Turns.Interval.{start-stays, goes-in}
@@ -223,13 +224,6 @@ all-spent j ok (suc t) l =
     (step-case (AllSpent (j .ops)) (j .ops) (stateAt j t) (who j t) (tick-spent (j .ops) (stateAt j t) h)
     (λ lt e. act-spent j (stateAt j t) (who j t) w (rising j ok t (omega arith)) lt e h))
 
--- no turn changes the directory's depth
-run-depth : (j : Job) → run j .file .g ≡ j .file .g
-unfolding run start
-run-depth j =
-    steps-keep (λ s. s .file .g ≡ j .file .g) (j .ops) (λ s i h. step-case (λ t. t .file .g ≡ j .file .g) (j .ops) s i h (λ l e. h)) _ (j .turns)
-    refl
-
 module _ (j : Job) (ok : FileOk (j .file)) (i : ℕ) where
   w : Whole j (run j)
   w = end-whole j ok
@@ -242,7 +236,7 @@ module _ (j : Job) (ok : FileOk (j .file)) (i : ℕ) where
   run-most =
       by-cases (decLt i (length (run j .rows)))
       (λ l.
-      rw (run-depth j) at
+      rw (run-shaped j .depth) at
       (stage-top (run j .file) (getD (j .ops) i noOp) (w .good .fit) (w .coherent .pages) _ (rowOf (run j) i .stage) _ (w .good .fine i)
       (w .coherent .work i)
       (w .codes .code i l)
@@ -279,3 +273,12 @@ longest-used g l = let p = pow-mono {i = g} {j = maxDepth} l in omega arith
 pub narrow-turns : (j : Job) → FileOk (j .file) → (ts : List ℕ) (i : ℕ) → usedBy j ts i ≤ mostUsed
 narrow-turns j ok ts i =
     omega (arith, most-turns j ok ts i, most-longest (j .file .g) (kindAt j i), longest-used (j .file .g) (ok .fit .depth))
+
+-- so it is before turn t of a job's own list, and at its end
+pub used-at : (j : Job) → FileOk (j .file) → (i t : ℕ) → rowOf (stateAt j t) i .used ≤ mostUsed
+unfolding stateAt under
+used-at j ok i t = narrow-turns j ok (take t (j .turns)) i
+
+pub used-end : (j : Job) → FileOk (j .file) → (i : ℕ) → rowOf (run j) i .used ≤ mostUsed
+unfolding run under
+used-end j ok i = narrow-turns j ok (j .turns) i
