@@ -24,3 +24,6 @@ pub mod Refutes
 pub mod WeighedPages
 pub mod RefutesPages
 pub mod WrongPages
+-- the same for the turns used
+pub mod WeighedTurns
+pub mod RefutesTurns

@@ -193,14 +193,14 @@ pagesRise j r = ofPages j callsRise
 unfoldable pub looks : Job → Result → Bool
 looks j r = ofPages j (λ rs. allOf (λ (o : Op). sameFound (lookIn rs (o .call)) (findIn rs (o .call))) (j .ops))
 
-abbrev op : Kind → ℕ → ℕ → Op
+abbrev pub op : Kind → ℕ → ℕ → Op
 op k n c = record { kind = k; call = n; charge = c }
 
-abbrev call : ℕ → ℕ → Rec
+abbrev pub call : ℕ → ℕ → Rec
 call k c = record { call = k; charge = c }
 
 -- a file of depth 1 and capacity 3 with one page in use of two
-abbrev onePage : List Rec → List Op → List ℕ → Job
+abbrev pub onePage : List Rec → List Op → List ℕ → Job
 onePage rs ops turns =
     record {
       file =
@@ -217,7 +217,7 @@ onePage rs ops turns =
     }
 
 -- n turns for operation i
-abbrev times-of : ℕ → ℕ → List ℕ
+abbrev pub times-of : ℕ → ℕ → List ℕ
 times-of n i = replicate n i
 
 -- a full page. Calls 3 and 5 begin with bit 1, as call 1 does, and call 7 with bit 0, as call 4 does
@@ -289,8 +289,11 @@ jobs =
     ∷ []
 
 -- each with the result that is read from what is written
+abbrev pub PassesOn : List Job → (Job → Result → Bool) → Type 0
+PassesOn js test = map (λ (j : Job). test j (readResult (encodeResult (result j)))) js ≡ map (λ (j : Job). true) js
+
 abbrev pub Passes : (Job → Result → Bool) → Type 0
-Passes test = map (λ (j : Job). test j (readResult (encodeResult (result j)))) jobs ≡ map (λ (j : Job). true) jobs
+Passes test = PassesOn jobs test
 
 -- opens the tests, and what they ask, for a proof by computation
 unfoldable pub tested : Unit {0}

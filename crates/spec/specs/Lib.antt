@@ -37,6 +37,7 @@ pub mod Months
 pub mod Opened
 pub mod Worked
 pub mod OneKey
+pub mod Counted
 pub mod Marked
 pub mod Refusals
 pub mod Tidying

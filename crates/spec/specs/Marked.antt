@@ -1,6 +1,6 @@
 -- The marked items of "Jobs worked through" as one table, from job bytes to result bytes, refusal or printed text. One proof covers its rows.
--- A second table is for calls that rise, a third for the pages told with answers, a fourth for deletes at a charge, and a fifth for calls that share
--- a pseudo key.
+-- A second table is for calls that rise, a third for the pages told with answers, a fourth for deletes at a charge, a fifth for calls that share
+-- a pseudo key, and a sixth for how many turns an operation uses at most.
 use Prim.Native.Nat.{ℕ}
 use mathlib.Core.Path.{_≡_, refl}
 use mathlib.Core.List.{List, [], _∷_, _++_, map}
@@ -8,17 +8,21 @@ use lib.ListN.{length, drop, replicate}
 use Rattle.spec.specs.declared.Rec.{Rec}
 use Rattle.spec.specs.declared.Outcome.{Outcome}
 use Rattle.spec.specs.declared.Outcome.the-variants.{Done, Refused}
+use Rattle.spec.specs.declared.Kind.{Kind}
+use Rattle.spec.specs.declared.Kind.the-variants.{Search, Insert, Delete}
 use Rattle.spec.specs.Key.{pseudoKey}
 use Rattle.spec.specs.File.{contents}
 use Rattle.spec.specs.Decode.{jobOf}
 use Rattle.spec.specs.Run.{run}
-use Rattle.spec.specs.Result.{Result, readResult}
+use Rattle.spec.specs.Result.{Told, Result, readResult}
 use Rattle.spec.specs.PlainList.{Reply, Replay}
 use Rattle.spec.specs.Check.{Lent}
 use Rattle.spec.specs.Outcome.{resultBytes, outcome, bufferAfter}
 use Rattle.spec.specs.Report.{printed}
 use Rattle.spec.specs.Claims.{fed}
+use Rattle.spec.specs.MostTurns.{longest, mostTurns, sharpTurns}
 use Rattle.spec.specs.Worked.{jobB, resultB, textB, jobLong, jobLate, resultLate, jobRest, resultRest, jobC, resultC, jobDeep, resultDeep, jobInsert, resultD, resultE2, jobG, resultG, jobH, resultH, jobI, resultI, jobJ, resultJ, jobRising, resultRising, jobPut, resultPut, jobTaken, resultTaken, jobStrike, resultStruck, resultLeft, jobBursars, textBursars}
+use Rattle.spec.specs.Counted.{jobFlat, jobTeased, jobWide}
 use Rattle.spec.specs.OneKey.{jobTwo, resultTwo, jobThree, resultThree}
 use Rattle.spec.specs.Opened.{opened}
 
@@ -35,14 +39,19 @@ data Asked : Type 0 where
   job : List ℕ → Asked
   print : List ℕ → Asked
   list : List ℕ → Asked
+  most : ℕ → Kind → Asked
+  sharp : ℕ → Kind → Asked
+  used : List ℕ → Asked
 
 data Said : Type 0 where
   number : ℕ → Said
   ends : Outcome → List ℕ → Said
   bytes : List ℕ → Said
   holds : Replay → List Rec → Said
+  numbers : List ℕ → Said
 
--- (`list`: the plain list fed the whole log, as it is read from the result's bytes, and what the file holds at the end)
+-- (`list`: the plain list fed the whole log, as it is read from the result's bytes, and what the file holds at the end; `used`: the turns used, as
+-- they are read from them)
 abbrev says : Asked → Said
 says (key call) = number (pseudoKey call)
 says (job b) = ends (outcome lent b) (bufferAfter lent b buffer)
@@ -50,6 +59,9 @@ says (print b) = bytes (printed b)
 says (list b) =
     let r : Result = readResult (resultBytes b) in
     holds (fed (jobOf b) r (length (r .log))) (contents (run (jobOf b) .file))
+says (most g k) = number (mostTurns g k)
+says (sharp g k) = number (sharpTurns g k)
+says (used b) = numbers (map (λ (a : Told). a .used) (readResult (resultBytes b) .answers))
 
 record Item : Type 0 where
   asked : Asked
@@ -164,6 +176,23 @@ oneKey =
 kept-apart : map (λ (m : Item). says (m .asked)) oneKey ≡ map (λ (m : Item). m .paper) oneKey
 unfolding opened
 kept-apart = refl
+
+-- "No operation of an accepted job .. uses more than 294 (depth 8)", "No search .. more than 2g + 3"; and what is reached, at depths 0, 1 and 8
+abbrev reached : List Item
+reached =
+    (most 8 Search ⇒ number 19)
+    ∷ (most 8 Insert ⇒ number 294)
+    ∷ (most 8 Delete ⇒ number 294)
+    ∷ (sharp 8 Insert ⇒ number 270)
+    ∷ (sharp 8 Delete ⇒ number 30)
+    ∷ (used jobFlat ⇒ numbers (map (sharpTurns 0) (Insert ∷ Delete ∷ Search ∷ [])))
+    ∷ (used jobTeased ⇒ numbers (map (sharpTurns 1) (Insert ∷ Delete ∷ Search ∷ [])))
+    ∷ (used jobWide ⇒ numbers (sharpTurns 8 Insert ∷ []))
+    ∷ []
+
+most-used : map (λ (m : Item). says (m .asked)) reached ≡ map (λ (m : Item). m .paper) reached
+unfolding opened longest mostTurns sharpTurns
+most-used = refl
 
 -- a list of some thousand turns computes too
 long-list : says (job jobLong) ≡ ran resultB
