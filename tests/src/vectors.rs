@@ -21,7 +21,7 @@ use crate::check::WORKING_MEMORY;
 use crate::run::Outcome;
 
 /// How many jobs there are: a test of no vectors would always pass.
-const JOBS: usize = 375;
+const JOBS: usize = 389;
 
 /// How many files to be tidied.
 const TO_BE_TIDIED: usize = 163;

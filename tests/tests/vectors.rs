@@ -100,6 +100,7 @@ fn the_vectors_are_all_there() {
         ("04-key", 38),
         ("09-delete-at", 30),
         ("10-rising", 45),
+        ("11-bounds", 14),
         ("12-tidy", 163),
     ];
     let wanted = wanted.map(|(folder, vectors)| (folder.to_string(), vectors));
