@@ -24,6 +24,8 @@
 //!   charges;
 //! - [`one_key`]: calls that share their whole pseudo key, for these and for tests
 //!   of their own;
+//! - [`make_most_turns`] and [`bounds`]: jobs whose operations use as many turns as
+//!   they can, and how many that is;
 //! - [`by_hand`]: small jobs made by hand, with what their result says;
 //! - [`vectors`]: the stored jobs and files, with what is wanted of them;
 //! - [`tally`] and [`asked`]: how often each number of refusal was met, and each
@@ -32,6 +34,7 @@
 
 pub mod answer;
 pub mod asked;
+pub mod bounds;
 pub mod by_hand;
 pub mod check;
 pub mod damage;
@@ -48,6 +51,7 @@ pub mod make;
 pub mod make_asked;
 pub mod make_few_calls;
 pub mod make_months;
+pub mod make_most_turns;
 pub mod make_thin;
 pub mod make_turns;
 pub mod one_key;
