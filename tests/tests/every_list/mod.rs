@@ -2,6 +2,7 @@
 
 use std::collections::HashSet;
 
+use chargefile_tests::bounds::within;
 use chargefile_tests::job::Job;
 use chargefile_tests::run::Run;
 
@@ -13,7 +14,8 @@ pub struct Lists {
     pub states: usize,
 }
 
-/// Goes through all states that turns lead to from the start of a job.
+/// Goes through all states that turns lead to from the start of a job. Each count is held to the bounds as it comes up: were one without a bound, there
+/// would be no end of states.
 pub fn every_list(job: &Job) -> Lists {
     let start = Run::new(job);
     let mut seen = HashSet::from([state(&start)]);
@@ -23,7 +25,9 @@ pub fn every_list(job: &Job) -> Lists {
         for (operation, most) in most.iter_mut().enumerate() {
             let next = turned(&run, operation);
             if seen.insert(state(&next)) {
-                *most = next.rows[operation].used.max(*most);
+                let used = next.rows[operation].used;
+                within(job.operations[operation].kind, job.file.depth, used);
+                *most = used.max(*most);
                 open.push(next);
             }
         }
