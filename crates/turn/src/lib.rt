@@ -14,20 +14,21 @@ ghost use Rattle.turn.specs.Rows.{blankRow};
 ghost use Rattle.turn.specs.Steps.{out, memStep};
 ghost use Rattle.turn.specs.Safe.{Safe};
 
-// An operation's row: its stage in numbers, its turns used, and its answer, with the page that is told. Each number is below 16,385 but the charge,
-// which has 32 bits; those of stages and codes are below 14.
+// An operation's row: its stage in numbers, its turns used, and its answer, with the page that is told. 16 bytes, so that four rows fill a cache
+// line of 64: a page (`page`, `told`) is its number less one, which is a byte, and so is what a split counts; `base` may be a turn, and has 16 bits
+// like `used` and `moment`.
 #[repr(C)]
 pub struct Row {
     pub charge: u32,
+    pub used: u16,
+    pub moment: u16,
+    pub base: u16,
     pub stage: u8,
     pub code: u8,
-    pub page: u16,
-    pub base: u16,
-    pub count: u16,
-    pub next: u16,
-    pub used: u16,
-    pub told: u16,
-    pub moment: u16,
+    pub page: u8,
+    pub told: u8,
+    pub count: u8,
+    pub next: u8,
 }
 
 impl Row {
@@ -37,15 +38,15 @@ impl Row {
     {
         Row {
             charge: 0,
+            used: 0,
+            moment: 0,
+            base: 0,
             stage: 0,
             code: 0,
             page: 0,
-            base: 0,
+            told: 0,
             count: 0,
             next: 0,
-            used: 0,
-            told: 0,
-            moment: 0,
         }
     }
 

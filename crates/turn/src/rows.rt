@@ -5,14 +5,26 @@ use spec::Stage;
 use spec::Task;
 ghost use mathlib.Core.Path.{_≡_};
 ghost use Prim.Native.Nat.{_+_, _<_};
-ghost use Rattle.turn.specs.Rows.{numbers, rowWith, taskNumbers, partNumbers, stageIn, moved, answered};
+ghost use Rattle.turn.specs.Rows.{byteOfPage, numbers, rowWith, taskNumbers, partNumbers, stageIn, moved, answered};
+
+// "the page number less one". No page, which is 0, is 0: of a row without an answer, "For code 0 it stays zero". (The remainder is for pages that
+// no run has: a page number is at most 256.)
+fn page_byte(x: u16) -> u8
+    ensures { λ r. ⌜ r ≡ byteOfPage x ⌝ }
+{
+    if x == 0 {
+        return 0;
+    }
+    ((x - 1) % 256) as u8
+}
 
 pub fn stage_of(row: Row) -> Stage
     ensures { λ r. ⌜ r ≡ stageIn row ⌝ }
 {
-    let x = row.page;
+    let x = row.page as u16 + 1;
     let b = row.base;
-    let n = row.count;
+    let n = row.count as u16;
+    let j = row.next as u16;
     let k = row.stage;
     match k {
         0 => Stage::NotBegun,
@@ -25,30 +37,30 @@ pub fn stage_of(row: Row) -> Stage
         7 => Stage::Held(x, Task::WritePage),
         8 => Stage::Held(x, Task::WriteOld),
         9 => Stage::Held(x, Task::Unlock),
-        10 => Stage::Split(x, b, n, Part::WriteNew(row.next)),
-        11 => Stage::Split(x, b, n, Part::WriteEntry(row.next)),
+        10 => Stage::Split(x, b, n, Part::WriteNew(j)),
+        11 => Stage::Split(x, b, n, Part::WriteEntry(j)),
         12 => Stage::Split(x, b, n, Part::UnlockNew),
         _ => Stage::Done,
     }
 }
 
 impl Row {
-    // One more turn is used, and these are the numbers of the next stage.
+    // One more turn is used, and these are the numbers of the next stage, each in the room that the row has for it.
     fn put(self, stage: u8, page: u16, base: u16, count: u16, next: u16) -> Row
         requires { ⌜ self .used < 65535 ⌝ }
         ensures { λ r. ⌜ r ≡ rowWith (numbers stage page base count next) (self .used + 1) (self .code) (self .charge) (self .told) (self .moment) ⌝ }
     {
         Row {
             charge: self.charge,
+            used: self.used + 1,
+            moment: self.moment,
+            base: base,
             stage: stage,
             code: self.code,
-            page: page,
-            base: base,
-            count: count,
-            next: next,
-            used: self.used + 1,
+            page: page_byte(page),
             told: self.told,
-            moment: self.moment,
+            count: (count % 256) as u8,
+            next: (next % 256) as u8,
         }
     }
 
@@ -99,15 +111,15 @@ impl Row {
     {
         Row {
             charge: charge,
+            used: self.used,
+            moment: moment,
+            base: self.base,
             stage: self.stage,
             code: code,
             page: self.page,
-            base: self.base,
+            told: page_byte(told),
             count: self.count,
             next: self.next,
-            used: self.used,
-            told: told,
-            moment: moment,
         }
     }
 }

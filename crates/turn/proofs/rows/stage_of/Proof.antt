@@ -1,8 +1,21 @@
+use borrow.Author.Needs.{needs}
 use borrow.Author.Tests.{ne-eqb}
 use Rattle.spec.specs.Basics.{if}
 use Rattle.turn.specs.Rows.{stageIn}
 use Rattle.turn.proofs.rows.stage_of.Statement.{statement}
 use Rattle.turn.proofs.rows.stage_of.Tie as tie
+
+cast-x : tie.Need-cast-x
+cast-x c = search needs
+
+add-x : tie.Need-add-x
+add-x c = search needs
+
+cast-n : tie.Need-cast-n
+cast-n c = search needs
+
+cast-j : tie.Need-cast-j
+cast-j c = search needs
 
 returns : tie.Need-returns
 unfolding stageIn if
@@ -59,7 +72,7 @@ returns-13 c = rw (c .match .keys13)
 returns-14 : tie.Need-returns-14
 unfolding stageIn if
 returns-14 c =
-    let k = c .before .args .row .stage in
+    let k = c .before .before .before .before .args .row .stage in
     let n = c .match .rest in
     rw (
       ne-eqb k 0 (n .0 .0 .0 .0 .0 .0 .0 .0 .0 .0 .0 .0 .1),
@@ -81,6 +94,10 @@ pub stage-of-spec : {M : Type 1} → statement M
 stage-of-spec =
     tie.close
     (tie.spec
+    cast-x
+    add-x
+    cast-n
+    cast-j
     returns
     returns-2
     returns-3

@@ -1,7 +1,7 @@
 use native.Mathlib.Omega.{arith}
-use Rattle.result.specs.Marks.{byteOfPage}
-use Rattle.result.proofs.page_byte.Statement.{statement}
-use Rattle.result.proofs.page_byte.Tie as tie
+use Rattle.turn.specs.Rows.{byteOfPage}
+use Rattle.turn.proofs.rows.page_byte.Statement.{statement}
+use Rattle.turn.proofs.rows.page_byte.Tie as tie
 
 returns : tie.Need-returns
 unfolding byteOfPage
