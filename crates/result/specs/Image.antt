@@ -19,9 +19,9 @@ use Rattle.spec.specs.Split.{digit}
 use Rattle.spec.specs.State.{Row as State-Row}
 use Rattle.spec.specs.Result.{toldOf, pageByte, answerBytes, underWay}
 use Rattle.turn.specs.declared.Row.{Row}
-use Rattle.turn.specs.Rows.{stageNumbers, taskNumbers, partNumbers, rowImage}
+use Rattle.turn.specs.Rows.{byteOfPage, stageNumbers, taskNumbers, partNumbers, rowImage}
 use Rattle.laws.specs.Tools.{if-case}
-use Rattle.result.specs.Marks.{markOf, markNumber, begunNumber, byteOfPage, rowBytes, withAnswer, withMark, Tells}
+use Rattle.result.specs.Marks.{markOf, markNumber, begunNumber, rowBytes, withAnswer, withMark, Tells}
 
 mark-image : (r : State-Row) (row : Row) → rowImage r ≡ row → markNumber (row .code) (row .moment) ≡ markOf r
 unfolding markOf rowImage

@@ -1,7 +1,7 @@
 -- What telling an operation writes: its answer in the result buffer, and its mark in the working memory, from which the log is made.
 use mathlib.Core.Path.{_≡_}
 use mathlib.Core.List.{List, [], _∷_, _++_}
-use Prim.Native.Nat.{ℕ, _+_, _-_, _*_, _%_, _<_}
+use Prim.Native.Nat.{ℕ, _+_, _*_, _<_}
 use lib.Dec.{eqb}
 use lib.ListN.{length, getD}
 use Rattle.spec.specs.Basics.{if}
@@ -33,13 +33,9 @@ pub record Marks (rs : List State-Row) (w : List ℕ) : Type 0 where
 unfoldable pub begunNumber : ℕ → ℕ
 begunNumber k = if (eqb k 0) 0 (if (eqb k 13) 0 1)
 
--- "the page number less one": a page told, which is at most 256, and no page, which is 0, so have a byte; with the remainder every row has one
-unfoldable pub byteOfPage : ℕ → ℕ
-byteOfPage x = (x - 1) % 256
-
 -- "Answer, 8 bytes: code, [page] byte, turns used without waiting (2), charge (4)", as a row has it
 unfoldable pub rowBytes : Row → List ℕ
-rowBytes row = (row .code ∷ byteOfPage (row .told) ∷ []) ++ two (row .used) ++ four (row .charge)
+rowBytes row = (row .code ∷ row .told ∷ []) ++ two (row .used) ++ four (row .charge)
 
 -- The row of operation i is told: its answer in the result buffer, and its mark in the memory
 unfoldable pub withAnswer : Row → ℕ → List ℕ → List ℕ

@@ -12,7 +12,7 @@ ghost use Rattle.spec.specs.Result.{Result, resultOf, lineBytes, resultHeader};
 ghost use Rattle.spec.specs.State.{State};
 ghost use Rattle.wire.specs.Over.{over};
 ghost use Rattle.header.specs.File.{fileSize};
-ghost use Rattle.result.specs.Marks.{markNumber, begunNumber, byteOfPage, rowBytes, withAnswer, withMark};
+ghost use Rattle.result.specs.Marks.{markNumber, begunNumber, rowBytes, withAnswer, withMark};
 ghost use Rattle.result.specs.Lines.{line, withLine, LogWritten};
 ghost use Rattle.result.specs.Finish.{Heads, FileShown, Ready, Finished};
 
@@ -23,24 +23,13 @@ const ANSWERS: usize = 24;
 
 // ---- answers
 
-// "the page number less one". A row without an answer has no page, which is 0: "For code 0 it stays zero". (The remainder is for rows that no run
-// makes: a page told is at most 256.)
-fn page_byte(x: u16) -> u8
-    ensures { λ r. ⌜ r ≡ byteOfPage x ⌝ }
-{
-    if x == 0 {
-        return 0;
-    }
-    ((x - 1) % 256) as u8
-}
-
-// "Answer, 8 bytes: code, [page] byte, turns used without waiting (2), charge (4)"
+// "Answer, 8 bytes: code, [page] byte, turns used without waiting (2), charge (4)". The row has the page told as the byte that stands here.
 fn put_answer(result: &mut [u8], at: usize, row: Row)
     requires { ⌜ at + 8 ≤ length (now result) ⌝ }
     ensures { λ _. ⌜ now (result .exit) ≡ over (now (result .entry)) at (rowBytes row) ⌝ }
 {
     result[at] = row.code;
-    result[at + 1] = page_byte(row.told);
+    result[at + 1] = row.told;
     wire::put_u16(result, at + 2, row.used as usize);
     wire::put_u32(result, at + 4, row.charge);
 }

@@ -1,7 +1,8 @@
--- A row's numbers tell the stage that they were made of; a row of zeros is an operation not begun; and what a turn makes of a row of numbers
--- is what the machine makes of the row.
+-- A row's numbers tell the stage that they were made of, where these are in range; a row of zeros is an operation not begun; and what a turn
+-- makes of a row of numbers is what the machine makes of the row.
 use mathlib.Core.Path.{_≡_, refl}
-use Prim.Native.Nat.{ℕ}
+use Prim.Native.Nat.{ℕ, _+_, _%_, _<_}
+use native.Mathlib.Omega.{arith}
 use Rattle.spec.specs.declared.Task.the-variants.{Verify, Release, Decide, WritePage, WriteOld, Unlock}
 use Rattle.spec.specs.declared.Part.the-variants.{WriteNew, WriteEntry, UnlockNew}
 use Rattle.spec.specs.declared.Stage.{Stage}
@@ -10,33 +11,43 @@ use Rattle.spec.specs.Basics.{if}
 use Rattle.spec.specs.State.{Answer, same, answer, Move, blank}
 use Rattle.spec.specs.State.{Row as State-Row}
 use Rattle.spec.specs.Run.{codeAfter, chargeAfter, pageAfter, momentAfter, rowAfter}
+use Rattle.laws.specs.Turns.Fields.{PageField, StageFields}
 use Rattle.turn.specs.declared.Row.{Row}
-use Rattle.turn.specs.Rows.{taskNumbers, partNumbers, stageNumbers, rowWith, blankRow, rowImage, stageIn, moved, answered}
+use Rattle.turn.specs.Rows.{byteOfPage, taskNumbers, partNumbers, stageNumbers, rowWith, blankRow, rowImage, stageIn, moved, answered}
 
-numbers-back : (st : Stage) (u k c p m : ℕ) → stageIn (rowWith (stageNumbers st) u k c p m) ≡ st
+-- nothing is lost in a byte: pages count from 1 to 256, and what a split counts is below 256
+page-back : (x : ℕ) → PageField x → byteOfPage x + 1 ≡ x
+unfolding byteOfPage
+page-back x h = omega arith
+
+byte-back : (n : ℕ) → n < 256 → n % 256 ≡ n
+byte-back n l = omega arith
+
+-- so where its numbers are those of a stage before turn t, the row has that stage
+numbers-back : (t : ℕ) (st : Stage) (u k c p m : ℕ) → StageFields t st → stageIn (rowWith (stageNumbers st) u k c p m) ≡ st
 unfolding stageIn stageNumbers taskNumbers partNumbers if
-numbers-back NotBegun u k c p m = refl
-numbers-back (ReadPage x) u k c p m = refl
-numbers-back (Reread x t) u k c p m = refl
-numbers-back (Lock x) u k c p m = refl
-numbers-back (Held x Verify) u k c p m = refl
-numbers-back (Held x (Release y)) u k c p m = refl
-numbers-back (Held x Decide) u k c p m = refl
-numbers-back (Held x WritePage) u k c p m = refl
-numbers-back (Held x WriteOld) u k c p m = refl
-numbers-back (Held x Unlock) u k c p m = refl
-numbers-back (Split x b n (WriteNew i)) u k c p m = refl
-numbers-back (Split x b n (WriteEntry j)) u k c p m = refl
-numbers-back (Split x b n UnlockNew) u k c p m = refl
-numbers-back Done u k c p m = refl
+numbers-back t NotBegun u k c p m h = refl
+numbers-back t (ReadPage x) u k c p m h = rw (page-back x h)
+numbers-back t (Reread x v) u k c p m h = rw (page-back x (h .0))
+numbers-back t (Lock x) u k c p m h = rw (page-back x h)
+numbers-back t (Held x Verify) u k c p m h = rw (page-back x (h .0))
+numbers-back t (Held x (Release y)) u k c p m h = rw (page-back x (h .0))
+numbers-back t (Held x Decide) u k c p m h = rw (page-back x (h .0))
+numbers-back t (Held x WritePage) u k c p m h = rw (page-back x (h .0))
+numbers-back t (Held x WriteOld) u k c p m h = rw (page-back x (h .0))
+numbers-back t (Held x Unlock) u k c p m h = rw (page-back x (h .0))
+numbers-back t (Split x b n (WriteNew i)) u k c p m h = rw (page-back x (h .0), byte-back n (omega arith), byte-back i (omega arith))
+numbers-back t (Split x b n (WriteEntry j)) u k c p m h = rw (page-back x (h .0), byte-back n (omega arith), byte-back j (omega arith))
+numbers-back t (Split x b n UnlockNew) u k c p m h = rw (page-back x (h .0), byte-back n (omega arith))
+numbers-back t Done u k c p m h = refl
 
-pub stage-back : (r : State-Row) → stageIn (rowImage r) ≡ r .stage
+pub stage-back : (t : ℕ) (r : State-Row) → StageFields t (r .stage) → stageIn (rowImage r) ≡ r .stage
 unfolding rowImage
-stage-back r = numbers-back (r .stage) (r .used) (r .code) (r .charge) (r .page) (r .moment)
+stage-back t r h = numbers-back t (r .stage) (r .used) (r .code) (r .charge) (byteOfPage (r .page)) (r .moment) h
 
 -- a row of zeros stands for an operation not begun
 pub blank-row : rowImage blank ≡ blankRow
-unfolding rowImage stageNumbers
+unfolding rowImage stageNumbers byteOfPage
 blank-row = refl
 
 -- a row that a turn moves on to a stage, with what the turn answers

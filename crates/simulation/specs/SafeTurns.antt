@@ -23,7 +23,6 @@ use Rattle.laws.specs.Codec.Proper.{JobProper}
 use Rattle.laws.specs.Turns.Good.{Fine}
 use Rattle.laws.specs.Turns.Work.{Plan, WorkTask, Work}
 use Rattle.laws.specs.Turns.Slots.{found-slot}
-use Rattle.laws.specs.Turns.SpentTurns.{used-at}
 use Rattle.laws.specs.Turns.Full.{FullPage, Full, full-count}
 use Rattle.memory.specs.declared.Shape.{Shape}
 use Rattle.memory.specs.Memory.{turnIn}
@@ -122,14 +121,14 @@ module _ (ops : List Op) (s : State) (i : ℕ) (w : List ℕ) (st : Steady ops s
   stage-safe (Split x b n q) e fi k u = split-safe x b n q fi k u
   stage-safe Done e fi k u = tt
 
-  step-safe : rowOf s i .used < 65535 → Safe sh op (rowImage (rowOf s i)) w
+  step-safe : Safe sh op (rowImage (rowOf s i)) w
   unfolding rowImage
-  step-safe few =
+  step-safe =
       record {
         ready =
             record { size = h .picture .long; depth = st .good .fit .depth; capacity = st .good .fit .capacity .1; pages = st .good .fit .most };
-        few = few;
-        at = rw (stage-back (rowOf s i)) (unfold stageOf in stage-safe (stageOf s i) refl (st .good .fine i) (st .coherent .work i) (st .full i));
+        few = st .few i;
+        at = rw (stage-back (s .now) (rowOf s i) (unfold stageOf in st .fields i)) (unfold stageOf in stage-safe (stageOf s i) refl (st .good .fine i) (st .coherent .work i) (st .full i));
       }
 
 pub safe
@@ -144,4 +143,4 @@ pub safe
 safe j ok k l w h =
     let i : ℕ = getD (j .turns) k 0 in
     subst (λ q. Safe q (getD (j .ops) i noOp) (rowImage (rowOf (stateAt j k) i)) w) (shape-at j k)
-    (step-safe (j .ops) (stateAt j k) i w (steady j ok k (omega arith)) h (omega (arith, used-at j i k, ok .turnCount)))
+    (step-safe (j .ops) (stateAt j k) i w (steady j ok k (omega arith)) h)

@@ -105,7 +105,7 @@ module _ (ops : List Op) (s : State) (i : ℕ) (w : List ℕ) (st : Steady ops s
   -- so a turn in memory is the machine's step
   step-meets : Steady ops (step ops s i) → Meets (step ops s i) i (memStep (shapeOf (s .file)) op (s .now) r w)
   unfolding memStep stageOf
-  step-meets after = rw (stage-back (rowOf s i)) (by (idle (s .locks) (stageOf s i)) refl)
+  step-meets after = rw (stage-back (s .now) (rowOf s i) (st .fields i)) (by (idle (s .locks) (stageOf s i)) refl)
     where
       by : (b : Bool) → idle (s .locks) (stageOf s i) ≡ b → Meets (step ops s i) i (turned (stageOf s i))
       by true e = waited e

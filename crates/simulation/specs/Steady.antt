@@ -10,8 +10,9 @@ use Rattle.spec.specs.declared.Op.{Op}
 use Rattle.spec.specs.File.{pageAt}
 use Rattle.spec.specs.Job.{Job}
 use Rattle.spec.specs.State.{State}
-use Rattle.spec.specs.Run.{stageOf}
+use Rattle.spec.specs.Run.{rowOf, stageOf}
 use Rattle.spec.specs.Claims.{stateAt}
+use Rattle.spec.specs.MostTurns.{mostUsed}
 use Rattle.laws.specs.Codec.Back.{RecFits, PageFits}
 use Rattle.laws.specs.Codec.Proper.{JobProper}
 use Rattle.laws.specs.ReadBack.{narrow-at}
@@ -25,7 +26,8 @@ use Rattle.laws.specs.Turns.Narrow.{EveryRecord}
 use Rattle.laws.specs.Turns.Rising.{Rising, rising}
 use Rattle.laws.specs.Turns.Followed.{Followed, followed}
 use Rattle.laws.specs.Turns.Full.{Full, full}
-use Rattle.laws.specs.Turns.Fields.{cut, cut-run}
+use Rattle.laws.specs.Turns.Fields.{StageFields, stage-fields, cut, cut-run}
+use Rattle.laws.specs.Turns.SpentTurns.{used-at}
 use Rattle.simulation.specs.Shown.{shapeOf}
 
 pub record Steady (ops : List Op) (s : State) : Type 0 where
@@ -35,6 +37,8 @@ pub record Steady (ops : List Op) (s : State) : Type 0 where
   pub rising : Rising s
   pub followed : Followed ops s
   pub full : (i : ℕ) → Full (s .file) (stageOf s i)
+  pub fields : (i : ℕ) → StageFields (s .now) (stageOf s i)
+  pub few : (i : ℕ) → rowOf s i .used ≤ mostUsed
   pub records : EveryRecord RecFits (s .file)
   pub time : s .now < 65536
 
@@ -63,6 +67,8 @@ steady j h k l =
       rising = rising j (h .file) k l;
       followed = followed j (h .file) k l;
       full = full j (h .file) k l;
+      fields = λ i. rw (stateAt-now j k l) (stage-fields j (h .file) i k l);
+      few = λ i. used-at j (h .file) i k;
       records = narrow-at j h k .0;
       time = omega (arith, stateAt-now j k l, h .turnCount);
     }

@@ -18,6 +18,7 @@ use Rattle.spec.specs.Check.{workSize}
 use Rattle.spec.specs.File.{lookIn}
 use Rattle.spec.specs.Split.{leastShared, splitCount}
 use Rattle.spec.specs.Turn.{recOf}
+use Rattle.spec.specs.MostTurns.{mostUsed}
 use Rattle.pieces.specs.Splits.{Splits}
 use Rattle.memory.specs.declared.Shape.{Shape}
 use Rattle.memory.specs.Memory.{pageIn}
@@ -87,7 +88,11 @@ SafeAt sh op w (Held x k) = SafeHeld sh op w x k
 SafeAt sh op w (Split x b n q) = SafeSplit sh op w x b n q
 SafeAt sh op w Done = Unit {0}
 
+-- what a row has counted, "no .. more than 294": one turn more has room in its 16 bits
+abbrev pub Few : Row → Type 0
+Few r = r .used ≤ mostUsed
+
 pub record Safe (sh : Shape) (op : Op) (r : Row) (w : List ℕ) : Type 0 where
   pub ready : Ready sh w
-  pub few : r .used < 65535
+  pub few : Few r
   pub at : SafeAt sh op w (stageIn r)

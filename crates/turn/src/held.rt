@@ -64,7 +64,7 @@ fn take_pages(u: u16, n: u16, work: &mut [u8])
 impl Row {
     // "(b) lock that page; if it is locked, the turn only waits"
     pub(crate) fn lock(self, x: u16, work: &mut [u8]) -> Row
-        requires { ⌜ (workSize ≤ length (now work)) × (self .used < 65535) × (x ≤ 256) ⌝ }
+        requires { ⌜ (workSize ≤ length (now work)) × Few self × (x ≤ 256) ⌝ }
         ensures { λ r. ⌜ out r (now (work .exit)) ≡ memLock self (now (work .entry)) x ⌝ }
     {
         if memory::is_locked(work, x) {
@@ -76,7 +76,7 @@ impl Row {
 
     // The locks of n pages, from x on, are given back.
     pub(crate) fn unlock(self, x: u16, n: u16, next: Stage, work: &mut [u8]) -> Row
-        requires { ⌜ (workSize ≤ length (now work)) × (self .used < 65535) × (x + n ≤ 257) ⌝ }
+        requires { ⌜ (workSize ≤ length (now work)) × Few self × (x + n ≤ 257) ⌝ }
         ensures { λ r. ⌜ out r (now (work .exit)) ≡ out (moved self next) (withLocks (now (work .entry)) x n 0) ⌝ }
     {
         memory::set_locks(work, x, n, 0);
@@ -85,7 +85,7 @@ impl Row {
 
     // "(c) read the entry again. If it names another page, the next turn unlocks the page held, and (b) follows with the page just read"
     fn verify(self, shape: Shape, op: Op, x: u16, work: &[u8]) -> Row
-        requires { ⌜ Ready shape (now work) × (self .used < 65535) ⌝ }
+        requires { ⌜ Ready shape (now work) × Few self ⌝ }
         ensures { λ r. ⌜ out r (now (work .entry)) ≡ memVerified shape op self (now (work .entry)) x ⌝ }
     {
         let y = search::named(shape, op, work);
@@ -98,7 +98,7 @@ impl Row {
 
     // The operation has its answer, told with the page that it holds, and the next turn unlocks that page.
     fn settled(self, x: u16, code: u8, charge: u32, moment: u16) -> Row
-        requires { ⌜ self .used < 65535 ⌝ }
+        requires { ⌜ Few self ⌝ }
         ensures { λ r. ⌜ r ≡ settled self x code charge moment ⌝ }
     {
         self.moved(Stage::Held(x, Task::Unlock))
@@ -108,7 +108,7 @@ impl Row {
     // A delete with the charge `asked` finds its call in page x at the charge `held`: "Where the call is there at another charge, the answer is
     // 9, "differs", with the file's charge".
     fn at_charge(self, asked: u32, t: u16, x: u16, held: u32) -> Row
-        requires { ⌜ self .used < 65535 ⌝ }
+        requires { ⌜ Few self ⌝ }
         ensures { λ r. ⌜ r ≡ memAtCharge asked t self x held ⌝ }
     {
         if strikes_out(asked, held) {
@@ -120,7 +120,7 @@ impl Row {
 
     // The answer of a delete, by what it found in its page.
     fn struck(self, t: u16, found: Found) -> Row
-        requires { ⌜ self .used < 65535 ⌝ }
+        requires { ⌜ Few self ⌝ }
         ensures { λ r. ⌜ r ≡ memStruck t self found ⌝ }
     {
         match found {
@@ -131,7 +131,7 @@ impl Row {
 
     // "turn (d) also takes and locks pages U+1 to U+n in the order of the splits, and from then on U is n more"
     fn taken(self, x: u16, u: u16, n: u16, work: &mut [u8]) -> Row
-        requires { ⌜ (workSize ≤ length (now work)) × (self .used < 65535) × (u + n ≤ 256) ⌝ }
+        requires { ⌜ (workSize ≤ length (now work)) × Few self × (u + n ≤ 256) ⌝ }
         ensures { λ r. ⌜ out r (now (work .exit)) ≡ memTaken self (now (work .entry)) x u n ⌝ }
     {
         take_pages(u, n, work);
@@ -141,7 +141,7 @@ impl Row {
     // "Insert into a full page": ""No depth" exactly when all c records share their first g bits with the call; otherwise "no page" exactly
     // when U + n is above P".
     fn fill(self, shape: Shape, op: Op, t: u16, x: u16, work: &mut [u8]) -> Row
-        requires { ⌜ Ready shape (now work) × (self .used < 65535) × Readable shape (now work) x ⌝ }
+        requires { ⌜ Ready shape (now work) × Few self × Readable shape (now work) x ⌝ }
         ensures { λ r. ⌜ out r (now (work .exit)) ≡ memFull shape op t self (now (work .entry)) x (pageIn (shape .capacity) (now (work .entry)) x) ⌝ }
     {
         let least = memory::least_shared_in(work, shape.capacity, x, op.call);
@@ -158,7 +158,7 @@ impl Row {
 
     // An insert whose call is not in page x.
     fn place(self, shape: Shape, op: Op, t: u16, x: u16, work: &mut [u8]) -> Row
-        requires { ⌜ Ready shape (now work) × (self .used < 65535) × Readable shape (now work) x ⌝ }
+        requires { ⌜ Ready shape (now work) × Few self × Readable shape (now work) x ⌝ }
         ensures { λ r. ⌜ out r (now (work .exit)) ≡ memPlaced shape op t self (now (work .entry)) x (pageIn (shape .capacity) (now (work .entry)) x) ⌝ }
     {
         if memory::page_count(work, shape.capacity, x) < shape.capacity {
@@ -170,7 +170,7 @@ impl Row {
 
     // "(d) read the page and decide". (No search comes here, nor to `write_page`.)
     fn decide(self, shape: Shape, op: Op, t: u16, x: u16, work: &mut [u8]) -> Row
-        requires { ⌜ Ready shape (now work) × (self .used < 65535) × Readable shape (now work) x ⌝ }
+        requires { ⌜ Ready shape (now work) × Few self × Readable shape (now work) x ⌝ }
         ensures { λ r. ⌜ out r (now (work .exit)) ≡ memDecided shape op t self (now (work .entry)) (op .kind) (foundIn (shape .capacity) (now (work .entry)) x (op .call)) ⌝ }
     {
         let found = memory::find_in(work, shape.capacity, x, op.call);
@@ -190,7 +190,7 @@ impl Row {
 
     // "a turn writes the page"
     fn write_page(self, shape: Shape, op: Op, t: u16, x: u16, work: &mut [u8]) -> Row
-        requires { ⌜ Ready shape (now work) × (self .used < 65535) × Writable shape (now work) x (op .kind) ⌝ }
+        requires { ⌜ Ready shape (now work) × Few self × Writable shape (now work) x (op .kind) ⌝ }
         ensures { λ r. ⌜ out r (now (work .exit)) ≡ memWritten shape op t self (now (work .entry)) x (op .kind) (pageIn (shape .capacity) (now (work .entry)) x) ⌝ }
     {
         let k = op.kind;
@@ -210,7 +210,7 @@ impl Row {
 
     // "one writing the old page": the call's moment, where it is in the old page.
     fn write_old(self, shape: Shape, op: Op, t: u16, x: u16, work: &mut [u8]) -> Row
-        requires { ⌜ Ready shape (now work) × (self .used < 65535) × Planned shape op (now work) x ⌝ }
+        requires { ⌜ Ready shape (now work) × Few self × Planned shape op (now work) x ⌝ }
         ensures { λ r. ⌜ out r (now (work .exit)) ≡ memOld shape op t self (now (work .entry)) x ⌝ }
     {
         let n = memory::split_count_in(work, shape.capacity, x, op.call);
@@ -233,7 +233,7 @@ impl Row {
         task: Task,
         work: &mut [u8],
     ) -> Row
-        requires { ⌜ Ready shape (now work) × (self .used < 65535) × SafeHeld shape op (now work) x task ⌝ }
+        requires { ⌜ Ready shape (now work) × Few self × SafeHeld shape op (now work) x task ⌝ }
         ensures { λ r. ⌜ out r (now (work .exit)) ≡ memHeld shape op t self (now (work .entry)) x task ⌝ }
     {
         match task {

@@ -47,7 +47,7 @@ pub fn stage_of(row: Row) -> Stage
 impl Row {
     // One more turn is used, and these are the numbers of the next stage, each in the room that the row has for it.
     fn put(self, stage: u8, page: u16, base: u16, count: u16, next: u16) -> Row
-        requires { ⌜ self .used < 65535 ⌝ }
+        requires { ⌜ Few self ⌝ }
         ensures { λ r. ⌜ r ≡ rowWith (numbers stage page base count next) (self .used + 1) (self .code) (self .charge) (self .told) (self .moment) ⌝ }
     {
         Row {
@@ -65,7 +65,7 @@ impl Row {
     }
 
     fn put_task(self, x: u16, t: Task) -> Row
-        requires { ⌜ self .used < 65535 ⌝ }
+        requires { ⌜ Few self ⌝ }
         ensures { λ r. ⌜ r ≡ rowWith (taskNumbers x t) (self .used + 1) (self .code) (self .charge) (self .told) (self .moment) ⌝ }
     {
         match t {
@@ -79,7 +79,7 @@ impl Row {
     }
 
     fn put_part(self, x: u16, b: u16, n: u16, q: Part) -> Row
-        requires { ⌜ self .used < 65535 ⌝ }
+        requires { ⌜ Few self ⌝ }
         ensures { λ r. ⌜ r ≡ rowWith (partNumbers x b n q) (self .used + 1) (self .code) (self .charge) (self .told) (self .moment) ⌝ }
     {
         match q {
@@ -91,7 +91,7 @@ impl Row {
 
     // The row after a turn that leads to a stage.
     pub(crate) fn moved(self, st: Stage) -> Row
-        requires { ⌜ self .used < 65535 ⌝ }
+        requires { ⌜ Few self ⌝ }
         ensures { λ r. ⌜ r ≡ moved self st ⌝ }
     {
         match st {

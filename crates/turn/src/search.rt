@@ -38,7 +38,7 @@ fn found_at(shape: Shape, op: Op, t: u16, x: u16, work: &[u8]) -> u16
 impl Row {
     // "Search: read its entry"; "Insert and delete: (a) read the entry"
     pub(crate) fn begin(self, shape: Shape, op: Op, work: &[u8]) -> Row
-        requires { ⌜ Ready shape (now work) × (self .used < 65535) ⌝ }
+        requires { ⌜ Ready shape (now work) × Few self ⌝ }
         ensures { λ r. ⌜ r ≡ moved self (begin (op .kind) (named shape op (now (work .entry)))) ⌝ }
     {
         let y = named(shape, op, work);
@@ -52,7 +52,7 @@ impl Row {
 
     // "read that page (found: finished)"
     pub(crate) fn read_page(self, shape: Shape, op: Op, t: u16, x: u16, work: &[u8]) -> Row
-        requires { ⌜ Ready shape (now work) × (self .used < 65535) × Reading shape op (now work) x ⌝ }
+        requires { ⌜ Ready shape (now work) × Few self × Reading shape op (now work) x ⌝ }
         ensures { λ r. ⌜ out r (now (work .entry)) ≡ memLooked shape op t self (now (work .entry)) (foundIn (shape .capacity) (now (work .entry)) x (op .call)) ⌝ }
     {
         let found = memory::find_in(work, shape.capacity, x, op.call);
@@ -67,7 +67,7 @@ impl Row {
 
     // "read the entry again. The same page number means "none", finished; else read the page now named". Page x was read on turn u.
     pub(crate) fn reread(self, shape: Shape, op: Op, x: u16, u: u16, work: &[u8]) -> Row
-        requires { ⌜ Ready shape (now work) × (self .used < 65535) ⌝ }
+        requires { ⌜ Ready shape (now work) × Few self ⌝ }
         ensures { λ r. ⌜ out r (now (work .entry)) ≡ memReread shape op self (now (work .entry)) x u ⌝ }
     {
         let y = named(shape, op, work);

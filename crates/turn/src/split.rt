@@ -67,7 +67,7 @@ fn redirect(shape: Shape, op: Op, t: u16, x: u16, b: u16, n: u16, j: u16, work: 
 impl Row {
     // "one turn for each new page written"
     fn write_new(self, shape: Shape, op: Op, x: u16, b: u16, n: u16, i: u16, work: &mut [u8]) -> Row
-        requires { ⌜ Ready shape (now work) × (self .used < 65535) × Splitting shape op (now work) x b n × (1 ≤ i) × (i ≤ n) ⌝ }
+        requires { ⌜ Ready shape (now work) × Few self × Splitting shape op (now work) x b n × (1 ≤ i) × (i ≤ n) ⌝ }
         ensures { λ r. ⌜ out r (now (work .exit)) ≡ memNew shape op self (now (work .entry)) x b n i ⌝ }
     {
         let next = after_new(shape, op, x, n, i, work);
@@ -87,7 +87,7 @@ impl Row {
         j: u16,
         work: &mut [u8],
     ) -> Row
-        requires { ⌜ Ready shape (now work) × (self .used < 65535) × Splitting shape op (now work) x b n × (j < 256) ⌝ }
+        requires { ⌜ Ready shape (now work) × Few self × Splitting shape op (now work) x b n × (j < 256) ⌝ }
         ensures { λ r. ⌜ out r (now (work .exit)) ≡ memEntry shape op t self (now (work .entry)) x b n j ⌝ }
     {
         let next = after_entry(shape, x, j, work);
@@ -112,7 +112,7 @@ impl Row {
         part: Part,
         work: &mut [u8],
     ) -> Row
-        requires { ⌜ Ready shape (now work) × (self .used < 65535) × SafeSplit shape op (now work) x b n part ⌝ }
+        requires { ⌜ Ready shape (now work) × Few self × SafeSplit shape op (now work) x b n part ⌝ }
         ensures { λ r. ⌜ out r (now (work .exit)) ≡ memSplit shape op t self (now (work .entry)) x b n part ⌝ }
     {
         match part {

@@ -7,15 +7,12 @@ use lib.ListN.{set, length-set}
 use Rattle.spec.specs.Bytes.{two, four}
 use Rattle.wire.specs.Over.{over}
 use Rattle.wire.specs.Joined.{three}
-use Rattle.result.specs.Marks.{byteOfPage, rowBytes}
+use Rattle.result.specs.Marks.{rowBytes}
 use Rattle.result.proofs.put_answer.Statement.{statement}
 use Rattle.result.proofs.put_answer.Tie as tie
 
 slice-write-result : tie.Need-slice-write-result
 slice-write-result c = omega arith
-
-page-byte-requires : tie.Need-page-byte-requires
-page-byte-requires c κs = tt
 
 add-result : tie.Need-add-result
 add-result c = omega arith
@@ -46,10 +43,9 @@ same-length c = c .before .before .put-u32 .kept .0 ∙ c .before .before .befor
 returns : tie.Need-returns
 unfolding rowBytes over two
 returns c =
-    let a = c .before .before .before .before .before .before .before .before .before .before .before .args in
-    let x = c .before .before .before .before .before .before .before .before .before .page-byte .result in
-    three {s₁ = set (set (a .result .now) (a .at) (a .row .code)) (a .at + 1) x} (a .result .now) (a .row .code ∷ byteOfPage (a .row .told) ∷ []) (two (a .row .used)) (four (a .row .charge)) (a .at) (a .at + 2) (a .at + 4)
-    (rw (c .before .before .before .before .before .before .before .before .before .page-byte .ensures) (simp add-one))
+    let a = c .before .before .before .before .before .before .before .before .before .before .args in
+    three {s₁ = set (set (a .result .now) (a .at) (a .row .code)) (a .at + 1) (a .row .told)} (a .result .now) (a .row .code ∷ a .row .told ∷ []) (two (a .row .used)) (four (a .row .charge)) (a .at) (a .at + 2) (a .at + 4)
+    (simp add-one)
     (c .before .before .before .before .before .before .put-u16 .ensures)
     (c .before .before .put-u32 .ensures)
     refl
@@ -60,7 +56,6 @@ put-answer-spec =
     tie.close
     (tie.spec
     slice-write-result
-    page-byte-requires
     add-result
     slice-write-result-2
     add-put-u16
