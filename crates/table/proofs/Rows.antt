@@ -34,8 +34,12 @@ val = LL.val T.the-type T′.the-laws
 abbrev pub IsRow : Row → Val → Type 0
 IsRow r w = Is T.the-row r (w ∷ [])
 
+-- the bytes of a row
+abbrev pub rowSize : ℕ
+rowSize = 16
+
 -- the offset of row i is no more than the slice has room for
-pub times-fits : (i n : ℕ) → i < n → n * 20 < 2 ^ 63 → i * 20 < 2 ^ 64
+pub times-fits : (i n : ℕ) → i < n → n * rowSize < 2 ^ 63 → i * rowSize < 2 ^ 64
 times-fits i n l r = omega arith
 
 module _ {M : Type 1} {𝓤 : URA M} {H : Heap 𝓤} {A : Atoms 𝓤} (W : Given 𝓤 H A) where

@@ -45,7 +45,7 @@ use denote.Signature.{plain}
 use Rattle.turn.specs.declared.Row.{Row}
 use Rattle.turn.proofs.Row as T
 use Rattle.turn.proofs.Row.Laws as T′
-use Rattle.table.proofs.Rows.{val, IsRow, times-fits, typed, own-row, row-out, tests}
+use Rattle.table.proofs.Rows.{val, IsRow, rowSize, times-fits, typed, own-row, row-out, tests}
 use Rattle.table.proofs.fill.Key.{name as #table·fill}
 use Rattle.table.proofs.fill as fn′
 use Rattle.table.proofs.fill.Statement as stated
@@ -142,7 +142,7 @@ module _ {M : Type 1} (𝓤 : URA M) (H : Heap 𝓤) (A : Atoms 𝓤) (W : Given
         let within : t .0 < length (zs t) = subst (λ (m : ℕ). t .0 < m) (sym (filled-length v ys (t .0) (t .1))) less in
         assigns ! (bin ! (load ! (from ! (stop !)) (look ! 11 refl)) (lit ! tt) (record { fits = times-fits (t .0) n less (room .1) })) (from ! (stop !)) (store ! 9 refl (tt, record { fits = times-fits (t .0) n less (room .1) })) $
         assigns ! (bin ! (load ! (from ! (fld ! refl (stop !))) (look-in ! 15 (sub ! 0 refl (whole !)))) (load ! (from ! (stop !)) (look ! 9 refl)) tt) (from ! (stop !)) (init ! 5 refl (tt, tt)) $
-        rewrite ! 5 (λ (p : ℕ). ‵ (fat fullShare tyPtr l₆ 0 (vptr b p))) (sym (place-is 20 o (t .0))) refl $
+        rewrite ! 5 (λ (p : ℕ). ‵ (fat fullShare tyPtr l₆ 0 (vptr b p))) (sym (place-is rowSize o (t .0))) refl $
         row-out ! fullShare (zs t) (t .0) b o within (λ _.
         assigns ! (of-opd ! (load ! (from ! (stop !)) (look ! 15 refl))) (from ! (hop ! (look ! 7 refl) (stop !))) (store-raw ! 0 refl (typed W v _ g)) $
         move ! (1 ∷ []) $ drop ! $ own-row ! v (val v) g $ move ! (1 ∷ 0 ∷ []) $ elem-put ! T.the-row fullShare (zs t) (t .0) v (val v ∷ []) b o within $

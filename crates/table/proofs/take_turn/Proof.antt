@@ -48,7 +48,7 @@ use Rattle.turn.proofs.Row as T
 use Rattle.table.specs.Turns.{both, movedOn, Moves, turnOn}
 use Rattle.table.proofs.Calls.{sure, calls, passes-on}
 use Rattle.table.proofs.Lent.{s}
-use Rattle.table.proofs.Rows.{val, times-fits, typed, row-out}
+use Rattle.table.proofs.Rows.{val, rowSize, times-fits, typed, row-out}
 use Rattle.table.proofs.Shapes.{shapeVal, IsShape, shape-typed, own-shape}
 use Rattle.table.proofs.moved_on as moved
 use Rattle.table.proofs.take_turn.Key.{name as #table·take-turn}
@@ -129,7 +129,7 @@ module _ {M : Type 1} (𝓤 : URA M) (H : Heap 𝓤) (A : Atoms 𝓤) (W : Given
         -- [_13; …; _12; …; _11; …; _10; …; _9 (8); …; _8 (10); …; _7; …; _6 (14); …; _5; …; _4; …; _3; …; _2 (22); …; _1 (24); …; room for _0; …; the tokens; what the parameters own (29)]
         assigns ! (bin ! (load ! (from ! (stop !)) (look ! 22 refl)) (lit ! tt) (record { fits = fits })) (from ! (stop !)) (init ! 10 refl (tt, record { fits = fits })) $
         assigns ! (bin ! (load ! (from ! (fld ! refl (stop !))) (look-in ! 24 (sub ! 0 refl (whole !)))) (load ! (from ! (stop !)) (look ! 10 refl)) tt) (from ! (stop !)) (init ! 8 refl (tt, tt)) $
-        rewrite ! 8 (λ (p : ℕ). ‵ (fat fullShare tyPtr l₉ 0 (vptr b p))) (sym (place-is 20 o i)) refl $
+        rewrite ! 8 (λ (p : ℕ). ‵ (fat fullShare tyPtr l₉ 0 (vptr b p))) (sym (place-is rowSize o i)) refl $
         -- what the parameters own, apart; what i, the shape and t own is let go: [work; true; ops; rows; _13; …; the tokens]
         move ! (29 ∷ []) $ fsplit ! $ move ! (1 ∷ []) $ fsplit ! $ drop ! $ fsplit ! $ move ! (1 ∷ []) $ fsplit ! $ drop ! $ fsplit ! $ drop ! $ fsplit ! $
         move ! (32 ∷ []) $ split ! $ move ! (5 ∷ []) $ fsplit ! $ drop ! $ fsplit ! $
@@ -156,7 +156,7 @@ module _ {M : Type 1} (𝓤 : URA M) (H : Heap 𝓤) (A : Atoms 𝓤) (W : Given
         land ! (from ! (stop !)) (store ! 16 refl (typed W r w is)) $
         assigns ! (bin ! (load ! (from ! (stop !)) (look ! 32 refl)) (lit ! tt) (record { fits = fits })) (from ! (stop !)) (store ! 20 refl (tt, record { fits = fits })) $
         assigns ! (bin ! (load ! (from ! (fld ! refl (stop !))) (look-in ! 34 (sub ! 0 refl (whole !)))) (load ! (from ! (stop !)) (look ! 20 refl)) tt) (from ! (stop !)) (init ! 10 refl (tt, tt)) $
-        rewrite ! 10 (λ (p : ℕ). ‵ (fat fullShare tyPtr l₁₃ 0 (vptr b p))) (sym (place-is 20 o i)) refl $
+        rewrite ! 10 (λ (p : ℕ). ‵ (fat fullShare tyPtr l₁₃ 0 (vptr b p))) (sym (place-is rowSize o i)) refl $
         assigns ! (of-opd ! (load ! (from ! (stop !)) (look ! 16 refl))) (from ! (hop ! (look ! 10 refl) (stop !))) (store-raw ! 5 refl (typed W r w is)) $
         move ! (5 ∷ 0 ∷ 6 ∷ []) $ elem-put ! T.the-row fullShare ys i r (w ∷ []) b o (within .0) $
         -- [the table; the tokens; work's last; true; ops; the open borrow (5); obs; auth; _13 (8); …]

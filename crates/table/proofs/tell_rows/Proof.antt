@@ -55,7 +55,7 @@ use Rattle.table.proofs.Calls.{sure, calls, passes-on}
 use Rattle.table.proofs.Lent.{word, bytes-mut, rows-shr, byte-ref, s, at, vs}
 use Rattle.table.proofs.Telling.{Same, lengths, under-small, none-told, one-more, told-is, below, answer-room, sum-fits, count-fits}
 use Rattle.table.proofs.Rounds.{word-fits, next-fits}
-use Rattle.table.proofs.Rows.{val, times-fits, typed, own-row, tests}
+use Rattle.table.proofs.Rows.{val, rowSize, times-fits, typed, own-row, tests}
 use Rattle.table.proofs.tell_rows.Key.{name as #table·tell-rows}
 use Rattle.table.proofs.tell_rows as fn′
 use Rattle.table.proofs.tell_rows.Statement as stated
@@ -176,7 +176,7 @@ module _ {M : Type 1} (𝓤 : URA M) (H : Heap 𝓤) (A : Atoms 𝓤) (W : Given
         let fits = times-fits k n within (room .1) in
         assigns ! (bin ! (load ! (from ! (stop !)) (look ! 24 refl)) (lit ! tt) (record { fits = fits })) (from ! (stop !)) (init ! 18 refl (tt, record { fits = fits })) $
         assigns ! (bin ! (load ! (from ! (fld ! refl (stop !))) (look-in ! 34 (sub ! 0 refl (whole !)))) (load ! (from ! (stop !)) (look ! 18 refl)) tt) (from ! (stop !)) (init ! 16 refl (tt, tt)) $
-        rewrite ! 16 (λ (p : ℕ). ‵ (fat fullShare tyPtr l₁₀ 0 (vptr b p))) (sym (place-is 20 o k)) refl $
+        rewrite ! 16 (λ (p : ℕ). ‵ (fat fullShare tyPtr l₁₀ 0 (vptr b p))) (sym (place-is rowSize o k)) refl $
         -- the shared slice is copied, and the copy is looked into: a row is taken out, read and put back
         move ! (4 ∷ []) $ use1 W (rows ⊛ rows) (shr-slice-copy 𝓤 H A W (named 0) κ T.the-row .twice x₀ (s x₀ ∷ [])) $ split ! $ fsplit ! $ drop ! $ fsplit ! $ drop ! $
         -- [the borrow; rows; result; its; work; its; the slice's token (6); _15 (7); …]
