@@ -50,6 +50,9 @@ impl Row {
         requires { ⌜ Few self ⌝ }
         ensures { λ r. ⌜ r ≡ rowWith (numbers stage page base count next) (self .used + 1) (self .code) (self .charge) (self .told) (self .moment) ⌝ }
     {
+        let x = page_byte(page);
+        let n = (count % 256) as u8;
+        let j = (next % 256) as u8;
         Row {
             charge: self.charge,
             used: self.used + 1,
@@ -57,10 +60,10 @@ impl Row {
             base: base,
             stage: stage,
             code: self.code,
-            page: page_byte(page),
+            page: x,
             told: self.told,
-            count: (count % 256) as u8,
-            next: (next % 256) as u8,
+            count: n,
+            next: j,
         }
     }
 
@@ -109,6 +112,7 @@ impl Row {
     pub(crate) fn answered(self, code: u8, charge: u32, told: u16, moment: u16) -> Row
         ensures { λ r. ⌜ r ≡ answered self code charge told moment ⌝ }
     {
+        let byte = page_byte(told);
         Row {
             charge: charge,
             used: self.used,
@@ -117,7 +121,7 @@ impl Row {
             stage: self.stage,
             code: code,
             page: self.page,
-            told: page_byte(told),
+            told: byte,
             count: self.count,
             next: self.next,
         }
