@@ -1,6 +1,6 @@
 -- All that a turn in memory rests on, of a state of a run: gathered in one record, for every state of an accepted job's run; and what follows of
 -- the pages, that they fit their bytes.
-use mathlib.Core.Path.{_≡_}
+use mathlib.Core.Path.{_≡_, sym, subst}
 use mathlib.Core.List.{List}
 use Prim.Native.Nat.{ℕ, _≤_, _<_}
 use native.Mathlib.Omega.{arith}
@@ -67,7 +67,7 @@ steady j h k l =
       rising = rising j (h .file) k l;
       followed = followed j (h .file) k l;
       full = full j (h .file) k l;
-      fields = λ i. rw (stateAt-now j k l) (stage-fields j (h .file) i k l);
+      fields = λ i. subst (λ t. StageFields t (stageOf (stateAt j k) i)) (sym (stateAt-now j k l)) (stage-fields j (h .file) i k l);
       few = λ i. used-at j (h .file) i k;
       records = narrow-at j h k .0;
       time = omega (arith, stateAt-now j k l, h .turnCount);

@@ -88,7 +88,7 @@ SafeAt sh op w (Held x k) = SafeHeld sh op w x k
 SafeAt sh op w (Split x b n q) = SafeSplit sh op w x b n q
 SafeAt sh op w Done = Unit {0}
 
--- what a row has counted, "no .. more than 294": one turn more has room in its 16 bits
+-- "No operation .. uses more than 294": so one turn more than the row counts has room in its 16 bits
 abbrev pub Few : Row → Type 0
 Few r = r .used ≤ mostUsed
 

@@ -12,7 +12,7 @@ use spec::Rec;
 use spec::Stage;
 use spec::Task;
 ghost use mathlib.Core.Path.{_≡_};
-ghost use Prim.Native.Nat.{_+_, _≤_, _<_};
+ghost use Prim.Native.Nat.{_+_, _≤_};
 ghost use lib.Dec.{eqb};
 ghost use lib.ListN.{length};
 ghost use Rattle.spec.specs.declared.Stage.the-variants.{Held};
@@ -24,7 +24,7 @@ ghost use Rattle.spec.specs.Turn.{recOf};
 ghost use Rattle.memory.specs.Memory.{withLocks, withUsed, pageIn, foundIn};
 ghost use Rattle.turn.specs.Rows.{moved};
 ghost use Rattle.turn.specs.Steps.{out, settled, home, goes, memLock, memVerified, memTaken, memFull, memPlaced, memAtCharge, memDecided, memStruck, memWritten, memOld, memHeld};
-ghost use Rattle.turn.specs.Safe.{Ready, Readable, Planned, Writable, SafeHeld};
+ghost use Rattle.turn.specs.Safe.{Few, Ready, Readable, Planned, Writable, SafeHeld};
 
 // The record that an insert stores.
 pub fn rec_of(op: Op) -> Rec

@@ -4,8 +4,9 @@ use spec::Part;
 use spec::Stage;
 use spec::Task;
 ghost use mathlib.Core.Path.{_≡_};
-ghost use Prim.Native.Nat.{_+_, _<_};
+ghost use Prim.Native.Nat.{_+_};
 ghost use Rattle.turn.specs.Rows.{byteOfPage, numbers, rowWith, taskNumbers, partNumbers, stageIn, moved, answered};
+ghost use Rattle.turn.specs.Safe.{Few};
 
 // "the page number less one". No page, which is 0, is 0: of a row without an answer, "For code 0 it stays zero". (The remainder is for pages that
 // no run has: a page number is at most 256.)

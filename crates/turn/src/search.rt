@@ -8,12 +8,12 @@ use spec::Kind;
 use spec::Op;
 use spec::Stage;
 ghost use mathlib.Core.Path.{_≡_};
-ghost use Prim.Native.Nat.{_≤_, _<_};
+ghost use Prim.Native.Nat.{_≤_};
 ghost use Rattle.spec.specs.Turn.{begin};
 ghost use Rattle.memory.specs.Memory.{foundIn};
 ghost use Rattle.turn.specs.Rows.{moved};
 ghost use Rattle.turn.specs.Steps.{out, named, foundAt, memLooked, memReread};
-ghost use Rattle.turn.specs.Safe.{Ready, Reading, Kept};
+ghost use Rattle.turn.specs.Safe.{Few, Ready, Reading, Kept};
 
 // The page that the call's own entry names.
 pub fn named(shape: Shape, op: Op, work: &[u8]) -> u16

@@ -13,7 +13,7 @@ ghost use Prim.Native.Nat.{_+_, _≤_, _<_};
 ghost use Rattle.spec.specs.Split.{splitCount};
 ghost use Rattle.memory.specs.Memory.{withEntry, withTurn, pageIn};
 ghost use Rattle.turn.specs.Steps.{out, plan, behind, goes, afterNew, afterEntry, memNew, memEntry, memSplit};
-ghost use Rattle.turn.specs.Safe.{Ready, Planned, Splitting, SafeSplit};
+ghost use Rattle.turn.specs.Safe.{Few, Ready, Planned, Splitting, SafeSplit};
 
 // The entry behind what the old page keeps: the first that goes to a new page.
 fn first_changed(shape: Shape, op: Op, x: u16, n: u16, work: &[u8]) -> u16
