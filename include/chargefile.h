@@ -310,15 +310,15 @@ static inline uint32_t chargefile_answer_page(const uint8_t *answer)
  */
 typedef struct chargefile_row {
     uint32_t charge; /* of its answer */
+    uint16_t used;   /* turns used without waiting, at most CHARGEFILE_USED_MAX */
+    uint16_t moment; /* the turn number of its line in the log */
+    uint16_t base;   /* this, count and next: where it stands in its stage */
     uint8_t stage;   /* what its next turn does; 0: not begun */
     uint8_t code;    /* of its answer; 0: not yet */
-    uint16_t page;   /* the page that it reads or holds */
-    uint16_t base;   /* this and the next two: where it stands in that stage */
-    uint16_t count;
-    uint16_t next;
-    uint16_t used;   /* turns used without waiting */
-    uint16_t told;   /* the page told with its answer, from 1; 0: not yet */
-    uint16_t moment; /* the turn number of its line in the log */
+    uint8_t page;    /* the page that it reads or holds, its number less one */
+    uint8_t told;    /* the page told with its answer, its number less one */
+    uint8_t count;
+    uint8_t next;
 } chargefile_row;
 
 /*
@@ -333,7 +333,7 @@ typedef struct chargefile_outcome {
 
 /* Stops a build whose compiler lays these out otherwise, or for a machine that the library is not
  * built for. */
-typedef char chargefile_row_has_20_bytes[sizeof(chargefile_row) == 20 ? 1 : -1];
+typedef char chargefile_row_has_16_bytes[sizeof(chargefile_row) == 16 ? 1 : -1];
 typedef char chargefile_outcome_has_24_bytes[sizeof(chargefile_outcome) == 24 ? 1 : -1];
 typedef char chargefile_size_has_8_bytes[sizeof(size_t) == 8 ? 1 : -1];
 

@@ -18,18 +18,18 @@
 
 static void row_layout(void)
 {
-    EXPECT_EQUAL(sizeof(chargefile_row), 20);
+    EXPECT_EQUAL(sizeof(chargefile_row), 16);
     EXPECT_EQUAL(alignof(chargefile_row), 4);
     EXPECT_FIELD(charge, 0, 4);
-    EXPECT_FIELD(stage, 4, 1);
-    EXPECT_FIELD(code, 5, 1);
-    EXPECT_FIELD(page, 6, 2);
+    EXPECT_FIELD(used, 4, 2);
+    EXPECT_FIELD(moment, 6, 2);
     EXPECT_FIELD(base, 8, 2);
-    EXPECT_FIELD(count, 10, 2);
-    EXPECT_FIELD(next, 12, 2);
-    EXPECT_FIELD(used, 14, 2);
-    EXPECT_FIELD(told, 16, 2);
-    EXPECT_FIELD(moment, 18, 2);
+    EXPECT_FIELD(stage, 10, 1);
+    EXPECT_FIELD(code, 11, 1);
+    EXPECT_FIELD(page, 12, 1);
+    EXPECT_FIELD(told, 13, 1);
+    EXPECT_FIELD(count, 14, 1);
+    EXPECT_FIELD(next, 15, 1);
 }
 
 static void outcome_layout(void)
@@ -202,14 +202,14 @@ static void called_from_cpp(void)
                         set.memory, set.memory_length),
                 148);
     EXPECT(left_as_after_a_run(148));
-    EXPECT_EQUAL(cpp_row_size(), 20);
+    EXPECT_EQUAL(cpp_row_size(), 16);
     EXPECT_EQUAL(cpp_outcome_size(), 24);
     EXPECT_EQUAL(cpp_result_size(j.bytes, j.length), result_room(counts_of(&j)));
 }
 
 void header_tests(void)
 {
-    test("header: a row has 20 bytes, its fields as the library has them", row_layout);
+    test("header: a row has 16 bytes, its fields as the library has them", row_layout);
     test("header: an outcome has 24 bytes, its fields as the library has them", outcome_layout);
     test("header: the versions", versions);
     test("header: the limits", limits);

@@ -11,30 +11,30 @@ use chargefile_tests::Outcome;
 #[derive(Clone, Copy, PartialEq, Eq)]
 pub struct Row {
     pub charge: u32,
+    pub used: u16,
+    pub moment: u16,
+    pub base: u16,
     pub stage: u8,
     pub code: u8,
-    pub page: u16,
-    pub base: u16,
-    pub count: u16,
-    pub next: u16,
-    pub used: u16,
-    pub told: u16,
-    pub moment: u16,
+    pub page: u8,
+    pub told: u8,
+    pub count: u8,
+    pub next: u8,
 }
 
 /// A row with the same number in every field.
-const fn row_of(number: u16) -> Row {
+const fn row_of(number: u8) -> Row {
     Row {
         charge: number as u32,
-        stage: number as u8,
-        code: number as u8,
+        used: number as u16,
+        moment: number as u16,
+        base: number as u16,
+        stage: number,
+        code: number,
         page: number,
-        base: number,
+        told: number,
         count: number,
         next: number,
-        used: number,
-        told: number,
-        moment: number,
     }
 }
 
@@ -83,7 +83,7 @@ impl Lent {
     pub fn new(result: usize, rows: usize, memory: usize) -> Lent {
         Lent {
             result: vec![0xA5; result],
-            rows: vec![row_of(0x5A5A); rows],
+            rows: vec![row_of(0x5A); rows],
             memory: vec![0xC3; memory],
         }
     }
