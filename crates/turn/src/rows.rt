@@ -51,12 +51,13 @@ impl Row {
         requires { ⌜ Few self ⌝ }
         ensures { λ r. ⌜ r ≡ rowWith (numbers stage page base count next) (self .used + 1) (self .code) (self .charge) (self .told) (self .moment) ⌝ }
     {
+        let used = self.used + 1;
         let x = page_byte(page);
         let n = (count % 256) as u8;
         let j = (next % 256) as u8;
         Row {
             charge: self.charge,
-            used: self.used + 1,
+            used: used,
             moment: self.moment,
             base: base,
             stage: stage,

@@ -8,7 +8,7 @@ page-byte-requires c κs = search needs
 
 returns : tie.Need-returns
 unfolding answered
-returns c = rw (c .page-byte .ensures)
+returns c = cc
 
 pub answered-spec : {M : Type 1} → statement M
 answered-spec = tie.close (tie.spec page-byte-requires returns)
