@@ -14,9 +14,9 @@ ghost use Rattle.turn.specs.Rows.{blankRow};
 ghost use Rattle.turn.specs.Steps.{out, memStep};
 ghost use Rattle.turn.specs.Safe.{Safe};
 
-// An operation's row: its stage in numbers, its turns used, and its answer, with the page that is told. 16 bytes, so that four rows fill a cache
-// line of 64: a page (`page`, `told`) is its number less one, which is a byte, and so is what a split counts; `base` may be a turn, and has 16 bits
-// like `used` and `moment`.
+// An operation's row: its stage in numbers, its turns used, and its answer, with the page that is told; 16 bytes, and no padding. A page (`page`,
+// `told`) is kept as its number less one, so that page 256 has a byte too, and what a split counts (`count`, `next`) is below 256. `base` may be a
+// turn, and has 16 bits like `used` and `moment`.
 #[repr(C)]
 pub struct Row {
     pub charge: u32,
