@@ -20,12 +20,13 @@
  *   - A job that meets no row that belongs to chargefile_run is run. What then stands in the result
  *     buffer is explained by its own log: the answered operations done one at a time in the log's
  *     order, on a plain list of calls, get the same codes and charges and leave the calls that the
- *     file then holds. Its charge file, where there is one, is that file, and is accepted as a job
- *     by itself.
+ *     file then holds. Its charge file, if there is one, is that file, and is accepted as a job.
  *   - At a stored insert's moment, the page told with its answer holds the call with its charge,
  *     and the call's own entry names that page. The page told with a search is the one that it
  *     read last; it held the record then, or, for "none", did not hold the call (PagesTold in
  *     crates/spec/specs/Claims.antt).
+ *   - No operation uses more than CHARGEFILE_USED_MAX turns, and fewer at lower depths, by its kind
+ *     (TurnsWithin in crates/spec/specs/MostTurns.antt).
  *   - A charge file that meets no row that belongs to chargefile_tidy is tidied. What is then
  *     written is accepted as a job by itself, so that it can be run like any other. It holds the
  *     same calls with the same charges, no two of its pages can be joined, and tidied again at the
@@ -166,6 +167,7 @@ extern "C" {
 #define CHARGEFILE_RESULT_MAX 21048u /* a result buffer that is enough for every job */
 #define CHARGEFILE_ROWS_MAX CHARGEFILE_OPERATIONS_MAX /* rows that are enough for every job */
 #define CHARGEFILE_MEMORY_SIZE 24576u /* working memory: this much, whatever the job */
+#define CHARGEFILE_USED_MAX 294u      /* turns that an operation uses at most, whatever the job */
 
 /* The little-endian number in 2 or 4 bytes. */
 static inline uint32_t chargefile_two(const uint8_t *bytes)
@@ -331,8 +333,7 @@ typedef struct chargefile_outcome {
     uint64_t length;  /* of the output, in bytes; 0 where it is refused */
 } chargefile_outcome;
 
-/* Stops a build whose compiler lays these out otherwise, or for a machine that the library is not
- * built for. */
+/* Stops a build that lays these out otherwise, or is for a machine that the library is not for. */
 typedef char chargefile_row_has_16_bytes[sizeof(chargefile_row) == 16 ? 1 : -1];
 typedef char chargefile_outcome_has_24_bytes[sizeof(chargefile_outcome) == 24 ? 1 : -1];
 typedef char chargefile_size_has_8_bytes[sizeof(size_t) == 8 ? 1 : -1];

@@ -24,8 +24,6 @@ pub fn stage_of(row: Row) -> Stage
 {
     let x = row.page as u16 + 1;
     let b = row.base;
-    let n = row.count as u16;
-    let j = row.next as u16;
     let k = row.stage;
     match k {
         0 => Stage::NotBegun,
@@ -38,9 +36,9 @@ pub fn stage_of(row: Row) -> Stage
         7 => Stage::Held(x, Task::WritePage),
         8 => Stage::Held(x, Task::WriteOld),
         9 => Stage::Held(x, Task::Unlock),
-        10 => Stage::Split(x, b, n, Part::WriteNew(j)),
-        11 => Stage::Split(x, b, n, Part::WriteEntry(j)),
-        12 => Stage::Split(x, b, n, Part::UnlockNew),
+        10 => Stage::Split(x, b, row.count as u16, Part::WriteNew(row.next as u16)),
+        11 => Stage::Split(x, b, row.count as u16, Part::WriteEntry(row.next as u16)),
+        12 => Stage::Split(x, b, row.count as u16, Part::UnlockNew),
         _ => Stage::Done,
     }
 }

@@ -11,11 +11,20 @@ cast-x c = search needs
 add-x : tie.Need-add-x
 add-x c = search needs
 
-cast-n : tie.Need-cast-n
-cast-n c = search needs
+cast-t13 : tie.Need-cast-t13
+cast-t13 c = search needs
 
-cast-j : tie.Need-cast-j
-cast-j c = search needs
+cast-t14 : tie.Need-cast-t14
+cast-t14 c = search needs
+
+cast-t16 : tie.Need-cast-t16
+cast-t16 c = search needs
+
+cast-t17 : tie.Need-cast-t17
+cast-t17 c = search needs
+
+cast-t19 : tie.Need-cast-t19
+cast-t19 c = search needs
 
 returns : tie.Need-returns
 unfolding stageIn if
@@ -59,20 +68,20 @@ returns-10 c = rw (c .match .keys10)
 
 returns-11 : tie.Need-returns-11
 unfolding stageIn if
-returns-11 c = rw (c .match .keys11)
+returns-11 c = rw (c .before .before .match .keys11)
 
 returns-12 : tie.Need-returns-12
 unfolding stageIn if
-returns-12 c = rw (c .match .keys12)
+returns-12 c = rw (c .before .before .match .keys12)
 
 returns-13 : tie.Need-returns-13
 unfolding stageIn if
-returns-13 c = rw (c .match .keys13)
+returns-13 c = rw (c .before .match .keys13)
 
 returns-14 : tie.Need-returns-14
 unfolding stageIn if
 returns-14 c =
-    let k = c .before .before .before .before .args .row .stage in
+    let k = c .before .before .args .row .stage in
     let n = c .match .rest in
     rw (
       ne-eqb k 0 (n .0 .0 .0 .0 .0 .0 .0 .0 .0 .0 .0 .0 .1),
@@ -96,8 +105,11 @@ stage-of-spec =
     (tie.spec
     cast-x
     add-x
-    cast-n
-    cast-j
+    cast-t13
+    cast-t14
+    cast-t16
+    cast-t17
+    cast-t19
     returns
     returns-2
     returns-3
