@@ -1,8 +1,9 @@
-//! docs/TURNS.md: its two tables of turns are what the turns do.
+//! docs/TURNS.md: its two tables of turns are what the turns do, and its table of the most turns has what is reached (most_turns.rs).
 
 use std::fs;
 use std::path::Path;
 
+use chargefile_tests::bounds::{reached, DEPTHS};
 use chargefile_tests::file::ChargeFile;
 use chargefile_tests::job::{Job, Kind, Operation};
 use chargefile_tests::page::{Page, Record};
@@ -121,4 +122,20 @@ fn three_operations() {
     assert_eq!(table.len(), 27);
     let log: Vec<_> = run.log().iter().map(|l| (l.moment, l.operation)).collect();
     assert_eq!((run.under_way(), log), (0, vec![(10, 0), (23, 2), (24, 1)]));
+}
+
+#[test]
+fn the_most_turns() {
+    let table = table("| | in general |");
+    let kinds = [
+        ("search", Kind::Search),
+        ("delete", Kind::Delete),
+        ("insert", Kind::Insert),
+    ];
+    assert_eq!(table.len(), kinds.len());
+    for (row, (name, kind)) in table.iter().zip(kinds) {
+        let numbers = DEPTHS.map(|depth| reached(kind, depth).to_string());
+        assert_eq!(row[0], name);
+        assert_eq!(row[2..], numbers, "{name}");
+    }
 }
