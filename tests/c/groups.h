@@ -14,6 +14,9 @@ void delete_tests(void);     /* a delete at a charge */
 void pages_told_tests(void); /* the page told with an answer */
 void rising_tests(void);     /* where a run puts a record, and where it finds one */
 void key_tests(void);        /* where a call belongs, and calls that share a pseudo key */
+void most_turns_tests(void); /* the turns that an insert uses at most, and waiting */
+void misled_tests(void);     /* the turns that a search and a delete use at most */
+void page_256_tests(void);   /* the last page there can be, and splits that lead to it */
 void tidied_tests(void);     /* what tidying writes */
 void not_tidied_tests(void); /* what tidying refuses */
 

@@ -16,6 +16,9 @@ int main(void)
     pages_told_tests();
     rising_tests();
     key_tests();
+    most_turns_tests();
+    misled_tests();
+    page_256_tests();
     tidied_tests();
     not_tidied_tests();
     return all_counted();
