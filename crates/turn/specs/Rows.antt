@@ -18,8 +18,8 @@ byteOfPage x = (x - 1) % 256
 
 -- The numbers of a stage: which it is; the page read, wanted or held (`page`); a second page or a turn, or the pages in use before the split
 -- (`base`); the number of new pages (`count`); the new page or the entry that comes next (`next`). An operation not begun is all zeros. All but
--- `base` are bytes, and of a number that is no byte the low byte stands here: no stage of a run has such a number (`simulation`, `fits-at`), so
--- that a row tells its stage (`stage-back`).
+-- `base` are bytes, and of a number that is no byte the low byte stands here: no stage of a run has such a number (`Turns/Fields` of the laws), so
+-- that a row tells its stage (`simulation`, `stage-back`).
 pub record Numbers : Type 0 where
   pub stage : ℕ
   pub page : ℕ

@@ -1,5 +1,5 @@
--- How large the numbers are that the code keeps of each operation, before every turn: the numbers of its stage, its turns used, its moment and
--- its charge; and the calls and charges of the file.
+-- How large the numbers are that the code keeps of each operation, before every turn: the numbers of its stage, and its moment; and that charge, page
+-- and moment are 0 before there is an answer. (Turns used: `SpentTurns`.)
 use Prim.Native.Nat.{ℕ, _+_, _^_, _<_, _≤_}
 use mathlib.Core.Path.{_≡_, refl}
 use mathlib.Core.Logic.{by-cases}

@@ -37,26 +37,26 @@ retries (suc l) k z =
     let e : suc l + k ≡ suc (l + k) = omega arith in
     rw (e, pow-suc) (omega (arith, retries l k z, pow-mono {i = 1} {j = l + k} (omega arith)))
 
--- so l retries and a split, and g retries without one, are within the bound
-split-most : (g l n : ℕ) → 0 < n → l + n ≤ g → 2 * l + 2 ^ (g - l) ≤ 2 ^ g
-split-most g l n z h = let e : l + (g - l) ≡ g = omega arith in rw e at (retries l (g - l) (omega arith))
+-- so l retries and a split are within 2^g
+split-within : (g l n : ℕ) → 0 < n → l + n ≤ g → 2 * l + 2 ^ (g - l) ≤ 2 ^ g
+split-within g l n z h = let e : l + (g - l) ≡ g = omega arith in rw e at (retries l (g - l) (omega arith))
 
-plain-most : (g : ℕ) (k : Kind) → (k ≡ Search → ⊥) → 3 * g + 6 ≤ sharpTurns g k
+-- what an operation can use has room for as many retries as there can be; an insert's also for a split, and where there is one the depth is not 0
+plain-within : (g : ℕ) (k : Kind) → (k ≡ Search → ⊥) → 3 * g + 6 ≤ sharpTurns g k
 unfolding sharpTurns
-plain-most g Search n = absurd (n refl)
-plain-most zero Insert n = omega arith
-plain-most (suc g) Insert n = let e : g + 1 ≡ suc g = omega arith in let h = rw e at (retries g 1 (omega arith)) in omega arith
-plain-most g Delete n = omega arith
+plain-within g Search n = absurd (n refl)
+plain-within zero Insert n = omega arith
+plain-within (suc g) Insert n = let e : g + 1 ≡ suc g = omega arith in let h = rw e at (retries g 1 (omega arith)) in omega arith
+plain-within g Delete n = omega arith
 
-pub search-most : (g : ℕ) (k : Kind) → k ≡ Search → 2 * g + 3 ≤ sharpTurns g k
+pub search-within : (g : ℕ) (k : Kind) → k ≡ Search → 2 * g + 3 ≤ sharpTurns g k
 unfolding sharpTurns
-search-most g k e = rw e (le-refl (2 * g + 3))
+search-within g k e = rw e (le-refl (2 * g + 3))
 
--- where there is a split, the depth is not 0
-insert-most : (g : ℕ) (k : Kind) → k ≡ Insert → 0 < g → 2 ^ g + g + 6 ≤ sharpTurns g k
+insert-within : (g : ℕ) (k : Kind) → k ≡ Insert → 0 < g → 2 ^ g + g + 6 ≤ sharpTurns g k
 unfolding sharpTurns
-insert-most zero k e z = absurd (omega arith)
-insert-most (suc g) k e z = rw e (le-refl (2 ^ suc g + suc g + 6))
+insert-within zero k e z = absurd (omega arith)
+insert-within (suc g) k e z = rw e (le-refl (2 ^ suc g + suc g + 6))
 
 -- the depth of the page that the call's entry names
 unfoldable pub depthOf : File → Op → ℕ
@@ -147,7 +147,7 @@ module _ (f : File) (op : Op) (fit : Fit f) (pages : (x : ℕ) → PageOk (f .g)
   read-top x c k h = omega (arith, h .deep, pages (entryOf f op) .deep)
 
   pub decide-top : (x : ℕ) → NoSearch op → SpentTask f op u x Decide → u + 3 ≤ top f op
-  decide-top x n h = omega (arith, pages x .deep, plain-most (f .g) (op .kind) n)
+  decide-top x n h = omega (arith, pages x .deep, plain-within (f .g) (op .kind) n)
 
   -- the depth has room for the new pages of a split
   room : (x b n : ℕ) (q : Part) → Fine f op (Split x b n q) → Work f op (Split x b n q) → pageAt f x .depth + n ≤ f .g
@@ -162,7 +162,7 @@ module _ (f : File) (op : Op) (fit : Fit f) (pages : (x : ℕ) → PageOk (f .g)
   new-top x b n i k w h =
       let r = room x b n (WriteNew i) k w in
       omega
-      (arith, split-most (f .g) (pageAt f x .depth) n (omega arith) r, pow-pos (f .g - pageAt f x .depth), insert-most (f .g) (op .kind) (w .0 .kind) (omega arith))
+      (arith, split-within (f .g) (pageAt f x .depth) n (omega arith) r, pow-pos (f .g - pageAt f x .depth), insert-within (f .g) (op .kind) (w .0 .kind) (omega arith))
 
   pub entry-top
       : (x b n j : ℕ)
@@ -175,11 +175,11 @@ module _ (f : File) (op : Op) (fit : Fit f) (pages : (x : ℕ) → PageOk (f .g)
       let z = goes-span f op x b n j (k .0) (k .1) in
       let c = goes-in f op x fit (pages x) (w .0) b j (w .1 .2) (k .1) in
       omega
-      (arith, c .1, end-start (f .g) (pageAt f x), split-most (f .g) (pageAt f x .depth) n (omega arith) r, insert-most (f .g) (op .kind) (w .0 .kind) (omega arith))
+      (arith, c .1, end-start (f .g) (pageAt f x), split-within (f .g) (pageAt f x .depth) n (omega arith) r, insert-within (f .g) (op .kind) (w .0 .kind) (omega arith))
 
   task-top : (x : ℕ) (t : Task) → NoSearch op → SpentTask f op u x t → u ≤ top f op
-  task-top x Verify n h = omega (arith, h .used, read-top x 2 3 h, plain-most (f .g) (op .kind) n)
-  task-top x (Release y) n h = omega (arith, h .used, read-top y 0 3 h, plain-most (f .g) (op .kind) n)
+  task-top x Verify n h = omega (arith, h .used, read-top x 2 3 h, plain-within (f .g) (op .kind) n)
+  task-top x (Release y) n h = omega (arith, h .used, read-top y 0 3 h, plain-within (f .g) (op .kind) n)
   task-top x Decide n h = omega (arith, decide-top x n h)
   task-top x WritePage n h = omega arith
   task-top x WriteOld n h = omega arith
@@ -192,9 +192,9 @@ module _ (f : File) (op : Op) (fit : Fit f) (pages : (x : ℕ) → PageOk (f .g)
 
   pub stage-top : (st : Stage) (c : ℕ) → Fine f op st → Work f op st → CodeAt f op c st → Spent f op u st → u ≤ top f op
   stage-top NotBegun c k w n h = omega arith
-  stage-top (ReadPage x) c k w n h = omega (arith, h .used, read-top x 1 2 h, search-most (f .g) (op .kind) w)
-  stage-top (Reread x t) c k w n h = omega (arith, h .used, read-top x 2 2 h, search-most (f .g) (op .kind) w)
-  stage-top (Lock x) c k w n h = omega (arith, h .used, read-top x 1 3 h, plain-most (f .g) (op .kind) (n .0))
+  stage-top (ReadPage x) c k w n h = omega (arith, h .used, read-top x 1 2 h, search-within (f .g) (op .kind) w)
+  stage-top (Reread x t) c k w n h = omega (arith, h .used, read-top x 2 2 h, search-within (f .g) (op .kind) w)
+  stage-top (Lock x) c k w n h = omega (arith, h .used, read-top x 1 3 h, plain-within (f .g) (op .kind) (n .0))
   stage-top (Held x t) c k w n h = task-top x t (n .0) h
   stage-top (Split x b m q) c k w n h = part-top x b m q k w h
   stage-top Done c k w n h = h

@@ -46,7 +46,7 @@ use Rattle.laws.specs.Turns.Sizes.{run-shaped}
 use Rattle.laws.specs.Turns.Writes.{Writes, i-writes}
 use Rattle.laws.specs.Turns.Rising.{Rising, rising, entry-deep, entry-deeper}
 use Rattle.laws.specs.Turns.Interval.{start-stays, goes-in}
-use Rattle.laws.specs.Turns.Spent.{depthOf, Read, top, SpentTask, SpentPart, Spent, search-most, spent-after, decide-top, new-top, entry-top, stage-top}
+use Rattle.laws.specs.Turns.Spent.{depthOf, Read, top, SpentTask, SpentPart, Spent, search-within, spent-after, decide-top, new-top, entry-top, stage-top}
 
 -- what an operation has used after its own turn
 record After (f : File) (op : Op) (u : ℕ) (m : Move) : Type 0 where
@@ -88,12 +88,12 @@ module _ (ops : List Op) (s : State) (op : Op) (good : Good ops s) (coherent : C
   looked-spent : (x : ℕ) (o : Option Rec) → op .kind ≡ Search → Read f op x 1 2 u → M (looked s op (foundOf x o))
   unfolding looked foundOf
   looked-spent x none e h = calm (on x 1 2 h)
-  looked-spent x (some r) e h = calm (omega (arith, h .used, h .deep, entry-g, search-most (f .g) (op .kind) e))
+  looked-spent x (some r) e h = calm (omega (arith, h .used, h .deep, entry-g, search-within (f .g) (op .kind) e))
 
   reread-spent : (x t : ℕ) → op .kind ≡ Search → Read f op x 2 2 u → M (reread s op x t)
   unfolding reread
   reread-spent x t e h =
-      if-case M (λ z. calm (omega (arith, h .used, h .deep, entry-g, search-most (f .g) (op .kind) e)))
+      if-case M (λ z. calm (omega (arith, h .used, h .deep, entry-g, search-within (f .g) (op .kind) e)))
       (λ z. let l = h .moved (eqb-false _ _ z) in calm (reads 1 2 (omega (arith, h .used))))
 
   verified-spent : (x : ℕ) → Read f op x 2 3 u → M (verified s op x)
