@@ -19,6 +19,7 @@ fn page_byte(x: u16) -> u8
     ((x - 1) % 256) as u8
 }
 
+// The stage of a row. What only a split has is read in its own arms: read before them, it would cost every turn.
 pub fn stage_of(row: Row) -> Stage
     ensures { λ r. ⌜ r ≡ stageIn row ⌝ }
 {
