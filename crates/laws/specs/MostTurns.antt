@@ -15,7 +15,7 @@ use Rattle.laws.specs.ReadBack.{reads}
 
 -- what is told of an operation is what its row says
 counted : (j : Job) (i : ℕ) → answerAt (result j) i .used ≡ usedBy j (j .turns) i
-unfolding answerAt result resultOf toldOf run under
+unfolding answerAt result resultOf toldOf under
 counted j i = ap (λ (t : Told). t .used) (answer-at (run j) i)
 
 pub turns-within : (j : Job) → FileOk (j .file) → TurnsWithin j (result j)

@@ -1,8 +1,9 @@
 -- A row's numbers tell the stage that they were made of, where these are in range; a row of zeros is an operation not begun; and what a turn
 -- makes of a row of numbers is what the machine makes of the row.
 use mathlib.Core.Path.{_≡_, refl}
-use Prim.Native.Nat.{ℕ, _+_, _%_, _<_}
+use Prim.Native.Nat.{ℕ, _+_, _<_}
 use native.Mathlib.Omega.{arith}
+use native.Mathlib.Nat.{mod-eq-of-lt}
 use Rattle.spec.specs.declared.Task.the-variants.{Verify, Release, Decide, WritePage, WriteOld, Unlock}
 use Rattle.spec.specs.declared.Part.the-variants.{WriteNew, WriteEntry, UnlockNew}
 use Rattle.spec.specs.declared.Stage.{Stage}
@@ -15,15 +16,12 @@ use Rattle.laws.specs.Turns.Fields.{PageField, StageFields}
 use Rattle.turn.specs.declared.Row.{Row}
 use Rattle.turn.specs.Rows.{byteOfPage, taskNumbers, partNumbers, stageNumbers, rowWith, blankRow, rowImage, stageIn, moved, answered}
 
--- nothing is lost in a byte: pages count from 1 to 256, and what a split counts is below 256
+-- a page number comes back from its byte: pages count from 1 to 256
 page-back : (x : ℕ) → PageField x → byteOfPage x + 1 ≡ x
 unfolding byteOfPage
 page-back x h = omega arith
 
-byte-back : (n : ℕ) → n < 256 → n % 256 ≡ n
-byte-back n l = omega arith
-
--- so where its numbers are those of a stage before turn t, the row has that stage
+-- where its numbers are those of a stage before turn t, the row has that stage: what a split counts is below 256, and no byte loses anything
 numbers-back : (t : ℕ) (st : Stage) (u k c p m : ℕ) → StageFields t st → stageIn (rowWith (stageNumbers st) u k c p m) ≡ st
 unfolding stageIn stageNumbers taskNumbers partNumbers if
 numbers-back t NotBegun u k c p m h = refl
@@ -36,9 +34,15 @@ numbers-back t (Held x Decide) u k c p m h = rw (page-back x (h .0))
 numbers-back t (Held x WritePage) u k c p m h = rw (page-back x (h .0))
 numbers-back t (Held x WriteOld) u k c p m h = rw (page-back x (h .0))
 numbers-back t (Held x Unlock) u k c p m h = rw (page-back x (h .0))
-numbers-back t (Split x b n (WriteNew i)) u k c p m h = rw (page-back x (h .0), byte-back n (omega arith), byte-back i (omega arith))
-numbers-back t (Split x b n (WriteEntry j)) u k c p m h = rw (page-back x (h .0), byte-back n (omega arith), byte-back j (omega arith))
-numbers-back t (Split x b n UnlockNew) u k c p m h = rw (page-back x (h .0), byte-back n (omega arith))
+numbers-back t (Split x b n (WriteNew i)) u k c p m h =
+    let count : n < 256 = omega arith in
+    let next : i < 256 = omega arith in
+    rw (page-back x (h .0), mod-eq-of-lt count, mod-eq-of-lt next)
+numbers-back t (Split x b n (WriteEntry j)) u k c p m h =
+    let count : n < 256 = omega arith in
+    let next : j < 256 = omega arith in
+    rw (page-back x (h .0), mod-eq-of-lt count, mod-eq-of-lt next)
+numbers-back t (Split x b n UnlockNew) u k c p m h = let count : n < 256 = omega arith in rw (page-back x (h .0), mod-eq-of-lt count)
 numbers-back t Done u k c p m h = refl
 
 pub stage-back : (t : ℕ) (r : State-Row) → StageFields t (r .stage) → stageIn (rowImage r) ≡ r .stage

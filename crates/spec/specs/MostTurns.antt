@@ -3,14 +3,14 @@
 use Prim.Native.Nat.{ℕ, zero, suc, _+_, _*_, _^_, _≤_}
 use mathlib.Core.Path.{_≡_}
 use mathlib.Core.List.{List, _++_}
-use lib.ListN.{length, getD}
+use lib.ListN.{getD}
 use Rattle.spec.specs.declared.Kind.{Kind}
 use Rattle.spec.specs.declared.Kind.the-variants.{Search, Insert, Delete}
 use Rattle.spec.specs.Bytes.{AreBytes}
 use Rattle.spec.specs.Job.{Job, noOp}
 use Rattle.spec.specs.Decode.{jobOf}
 use Rattle.spec.specs.State.{State}
-use Rattle.spec.specs.Run.{rowOf, start, steps, run}
+use Rattle.spec.specs.Run.{rowOf, run}
 use Rattle.spec.specs.Result.{Result, readResult}
 use Rattle.spec.specs.Outcome.{resultBytes}
 use Rattle.spec.specs.Claims.{answerAt, Accepted}
@@ -37,10 +37,10 @@ sharpTurns g Delete = 3 * g + 6
 abbrev pub mostUsed : ℕ
 mostUsed = 294
 
--- a job's file and operations "under a list of any length, also one longer than a job can carry". Before turn t of its own list a job is under the
--- first t turns, and at the end under all of them
+-- a job with another list in place of its own: "under a list of any length, also one longer than a job can carry". Before turn t of its own list it is
+-- under the first t turns, and at the end under all of them
 unfoldable pub under : Job → List ℕ → State
-under j ts = steps (j .ops) (start (j .file) (length (j .ops))) ts
+under j ts = run (record { file = j .file; ops = j .ops; turns = ts })
 
 -- by operation i of the job j: turns used under the list ts; and its kind
 abbrev pub usedBy : Job → List ℕ → ℕ → ℕ

@@ -26,7 +26,7 @@ use Rattle.spec.specs.File.{Page, File, zeroPage, pageAt, entryAt, foundOf}
 use Rattle.spec.specs.Job.{Job, noOp, maxDepth}
 use Rattle.spec.specs.State.{State, Answer, same, Move, gone, go}
 use Rattle.spec.specs.Turn.{homeOf, entryOf, entriesFrom, begin, looked, reread, decided, written, verified, oldWritten, heldTurn, splitTurn, turn}
-use Rattle.spec.specs.Run.{tableAfter, directoryAfter, fileAfter, rowOf, stageOf, idle, tick, act, start, run}
+use Rattle.spec.specs.Run.{tableAfter, directoryAfter, fileAfter, rowOf, stageOf, idle, act, start, run}
 use Rattle.spec.specs.Proper.{FileOk}
 use Rattle.spec.specs.Claims.{stateAt}
 use Rattle.spec.specs.MostTurns.{longest, mostTurns, sharpTurns, under, usedBy, kindAt, mostUsed}
@@ -42,6 +42,7 @@ use Rattle.laws.specs.Turns.Coherent.{i-does}
 use Rattle.laws.specs.Turns.Codes.{NoSearch, CodeAt}
 use Rattle.laws.specs.Turns.States.{who, stateAt-suc, stateAt-zero, stateAt-end}
 use Rattle.laws.specs.Turns.Whole.{Whole, whole, end-whole}
+use Rattle.laws.specs.Turns.Fields.{cut, cut-run}
 use Rattle.laws.specs.Turns.Sizes.{run-shaped}
 use Rattle.laws.specs.Turns.Writes.{Writes, i-writes}
 use Rattle.laws.specs.Turns.Rising.{Rising, rising, entry-deep, entry-deeper}
@@ -177,10 +178,6 @@ module _ (ops : List Op) (s : State) (op : Op) (good : Good ops s) (coherent : C
 abbrev AllSpent : List Op → State → Type 0
 AllSpent ops s = (i : ℕ) → Spent (s .file) (getD ops i noOp) (rowOf s i .used) (rowOf s i .stage)
 
-tick-spent : (ops : List Op) (s : State) → AllSpent ops s → AllSpent ops (tick s)
-unfolding rowOf
-tick-spent ops s h = h
-
 act-spent
     : (j : Job) (s : State) (i : ℕ)
     → Whole j s
@@ -216,12 +213,13 @@ unfolding start rowOf
 start-spent ops f m i = first-row (λ r. Spent f (getD ops i noOp) (r .used) (r .stage)) refl (omega arith) m i
 
 all-spent : (j : Job) → FileOk (j .file) → (t : ℕ) → t ≤ length (j .turns) → AllSpent (j .ops) (stateAt j t)
+unfolding rowOf
 all-spent j ok zero l = rw (stateAt-zero j) (start-spent (j .ops) _ _)
 all-spent j ok (suc t) l =
     let w = whole j ok t (omega arith) in
     let h = all-spent j ok t (omega arith) in
     rw (stateAt-suc j t l)
-    (step-case (AllSpent (j .ops)) (j .ops) (stateAt j t) (who j t) (tick-spent (j .ops) (stateAt j t) h)
+    (step-case (AllSpent (j .ops)) (j .ops) (stateAt j t) (who j t) h
     (λ lt e. act-spent j (stateAt j t) (who j t) w (rising j ok t (omega arith)) lt e h))
 
 module _ (j : Job) (ok : FileOk (j .file)) (i : ℕ) where
@@ -245,8 +243,8 @@ module _ (j : Job) (ok : FileOk (j .file)) (i : ℕ) where
 
 -- NO SEARCH USES MORE THAN 2g + 3 TURNS, NO DELETE MORE THAN 3g + 6, AND NO INSERT MORE THAN 2^g + g + 6, under any list of turns
 pub sharp-turns : (j : Job) → FileOk (j .file) → (ts : List ℕ) (i : ℕ) → usedBy j ts i ≤ sharpTurns (j .file .g) (kindAt j i)
-unfolding run under
-sharp-turns j ok ts i = run-most (record { file = j .file; ops = j .ops; turns = ts }) ok i
+unfolding under
+sharp-turns j ok ts i = run-most _ ok i
 
 -- which is within what is asked
 sharp-most : (g : ℕ) (k : Kind) → sharpTurns g k ≤ mostTurns g k
@@ -276,9 +274,9 @@ narrow-turns j ok ts i =
 
 -- so it is before turn t of a job's own list, and at its end
 pub used-at : (j : Job) → FileOk (j .file) → (i t : ℕ) → rowOf (stateAt j t) i .used ≤ mostUsed
-unfolding stateAt under
-used-at j ok i t = narrow-turns j ok (take t (j .turns)) i
+unfolding under cut
+used-at j ok i t = rw (← cut-run j t) (narrow-turns j ok (take t (j .turns)) i)
 
 pub used-end : (j : Job) → FileOk (j .file) → (i : ℕ) → rowOf (run j) i .used ≤ mostUsed
-unfolding run under
+unfolding under
 used-end j ok i = narrow-turns j ok (j .turns) i
