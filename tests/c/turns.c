@@ -39,8 +39,8 @@ void run_list(job *j)
     expect_within(j);
 }
 
-/* "Answer, 8 bytes: code, zero byte, turns used without waiting (2), charge (4)": the answers stand
- * behind the 24 bytes of the header. */
+/* "turns used without waiting (2)" stand behind code and page of an answer, the answers behind the
+ * 24 bytes of the header. */
 void expect_within(const job *j)
 {
     counts c = counts_of(j);
