@@ -7,12 +7,13 @@ pub mod Turns
 -- the bytes: accepted jobs are proper, and are read and written back exactly
 pub mod Codec
 -- the two together: the result and its charge file read back, demand 3 for every accepted job, calls that rise in every page, the pages told with
--- the answers, how many turns an operation uses, room in the result buffer
+-- the answers, how many turns an operation uses, how many rounds finish every operation, room in the result buffer
 pub mod ReadBack
 pub mod Demand3
 pub mod InOrder
 pub mod PagesTold
 pub mod MostTurns
+pub mod Rounds
 pub mod Room
 -- tidying: which pages are left, in whatever order they are joined; the tidied file; months one after another
 pub mod Tidy

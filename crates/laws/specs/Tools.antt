@@ -1,12 +1,13 @@
 -- Facts on tests, on lists and on their members that several files use. Nothing of the charge file is here.
 use Prim.Native.Nat.{ℕ, zero, suc, _<_, _≤_}
 use mathlib.Core.Path.{_≡_, refl, sym, ap, _∙_}
+use mathlib.Core.Logic.{_⊎_, inl, inr, ⊎-elim}
 use mathlib.Core.List.{List, [], _∷_, _++_}
 use mathlib.Core.Bool.{Bool, true, false, _&&_, true≢false, false≢true, Bool·beq, and-eq-true-iff}
 use mathlib.Core.Option.{Option, none, some}
 use native.Mathlib.Omega.{arith}
 use lib.ListN.{length, getD, set, replicate}
-use Rattle.spec.specs.Basics.{if, allOf, filter, Each, end, next}
+use Rattle.spec.specs.Basics.{if, allOf, filter, Each, end, next, Has, here, there}
 
 unfoldable pub isSome : {A : Type 0} → Option A → Bool
 isSome none = false
@@ -91,6 +92,32 @@ module _ {A : Type 0} where
   each-or [] m d p h = p
   each-or (x ∷ xs) zero d p h = first h
   each-or (x ∷ xs) (suc m) d p h = each-or xs m d p (rest h)
+
+  -- a member of a list
+  pub has-left : {x : A} {xs : List A} (ys : List A) → Has x xs → Has x (xs ++ ys)
+  has-left ys here = here
+  has-left ys (there h) = there (has-left ys h)
+
+  pub has-right : {x : A} (xs : List A) {ys : List A} → Has x ys → Has x (xs ++ ys)
+  has-right [] h = h
+  has-right (y ∷ xs) h = there (has-right xs h)
+
+  pub has-append : {x : A} (xs ys : List A) → Has x (xs ++ ys) → Has x xs ⊎ Has x ys
+  has-append [] ys h = inr h
+  has-append (y ∷ xs) ys here = inl here
+  has-append (y ∷ xs) ys (there h) = ⊎-elim (λ i. inl (there i)) inr (has-append xs ys h)
+
+  pub has-one : {x y : A} → Has x (y ∷ []) → x ≡ y
+  has-one here = refl
+
+  pub has-first : (xs : List A) (d : A) → 1 ≤ length xs → Has (getD xs 0 d) xs
+  has-first [] d l = absurd (omega arith)
+  has-first (x ∷ xs) d l = here
+
+  pub has-at : (l : List A) (m : ℕ) (d : A) → m < length l → Has (getD l m d) l
+  has-at [] m d u = absurd (omega arith)
+  has-at (x ∷ l) zero d u = here
+  has-at (x ∷ l) (suc m) d u = there (has-at l m d (omega arith))
 
   -- a place is within the list, if what is read there is not so where there is none
   pub within : (P : A → Type 0) (l : List A) (i : ℕ) (d : A) → (P d → ⊥) → P (getD l i d) → i < length l

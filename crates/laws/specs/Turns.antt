@@ -66,3 +66,5 @@ pub mod PageTold
 -- how many turns an operation has used, by its stage; how many it uses at most
 pub mod Spent
 pub mod SpentTurns
+-- rounds: how many finish every operation
+pub mod Rounds

@@ -31,6 +31,7 @@ pub mod Tidy
 pub mod Proper
 pub mod Claims
 pub mod MostTurns
+pub mod Rounds
 pub mod Tidied
 pub mod Months
 -- by computation: the marked items, the refusal table, files tidied

@@ -272,6 +272,9 @@ pub narrow-turns : (j : Job) → FileOk (j .file) → (ts : List ℕ) (i : ℕ) 
 narrow-turns j ok ts i =
     omega (arith, most-turns j ok ts i, most-longest (j .file .g) (kindAt j i), longest-used (j .file .g) (ok .fit .depth))
 
+pub sharp-longest : (g : ℕ) (k : Kind) → sharpTurns g k ≤ longest g
+sharp-longest g k = omega (arith, sharp-most g k, most-longest g k)
+
 -- so it is before turn t of a job's own list, and at its end
 pub used-at : (j : Job) → FileOk (j .file) → (i t : ℕ) → rowOf (stateAt j t) i .used ≤ mostUsed
 unfolding under cut

@@ -50,14 +50,15 @@ first-ge (a ∷ ts) i (suc u) l h =
     if-case (λ n. suc u ≤ n) (λ q. absurd (h 0 (omega arith) (eqb-true a i q)))
     (λ q. let k = first-ge ts i u (omega arith) (λ v w e. h (suc v) (omega arith) e) in omega arith)
 
-steps-snoc : (ops : List Op) (s : State) (ts : List ℕ) (t : ℕ) → steps ops s (ts ++ (t ∷ [])) ≡ step ops (steps ops s ts) t
+-- turns, and then more turns
+pub steps-append : (ops : List Op) (s : State) (ts us : List ℕ) → steps ops s (ts ++ us) ≡ steps ops (steps ops s ts) us
 unfolding steps
-steps-snoc ops s [] t = refl
-steps-snoc ops s (a ∷ ts) t = steps-snoc ops (step ops s a) ts t
+steps-append ops s [] us = refl
+steps-append ops s (t ∷ ts) us = steps-append ops (step ops s t) ts us
 
 pub stateAt-suc : (j : Job) (t : ℕ) → t < length (j .turns) → stateAt j (suc t) ≡ step (j .ops) (stateAt j t) (who j t)
-unfolding stateAt
-stateAt-suc j t l = rw (take-suc (j .turns) t 0 l) (steps-snoc (j .ops) _ (take t (j .turns)) (who j t))
+unfolding stateAt steps
+stateAt-suc j t l = rw (take-suc (j .turns) t 0 l) (steps-append (j .ops) _ (take t (j .turns)) (who j t ∷ []))
 
 pub stateAt-end : (j : Job) → stateAt j (length (j .turns)) ≡ run j
 unfolding stateAt run

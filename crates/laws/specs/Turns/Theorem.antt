@@ -34,7 +34,7 @@ use Rattle.laws.specs.Turns.Log.{Marked, log-once, log-other, log-sorted
 use Rattle.laws.specs.Turns.Answers.{answer-at, replayed, replay-twice, refused-at}
 
 -- a search that is unfinished is not idle
-search-moves
+pub search-moves
     : (l : List Bool) (f : File) (op : Op) (c : ℕ) (st : Stage)
     → CodeAt f op c st
     → op .kind ≡ Search
@@ -50,7 +50,7 @@ search-moves l f op c (Held x t) h k n e = false≢true e
 search-moves l f op c (Split x b m q) h k n e = false≢true e
 search-moves l f op c Done h k n e = n refl
 
-done-idle : (l : List Bool) (st : Stage) → st ≡ Done → idle l st ≡ true
+pub done-idle : (l : List Bool) (st : Stage) → st ≡ Done → idle l st ≡ true
 unfolding idle
 done-idle l st e = ap (idle l) e
 
@@ -165,6 +165,9 @@ module _ (j : Job) (ok : FileOk (j .file)) where
   unfolding fed answerAt
   all-refused p l c = refused-at (j .ops) (result j .answers) (result j .log) (contents (j .file)) p (replayed j ok .0) l c
 
+  pub all-told : (i : ℕ) → i < length (j .ops) → stageOf (run j) i ≡ Done → answerAt (result j) i .code ≡ notYet → ⊥
+  all-told i l d z = done-code w i (omega (arith, w .rows)) d (sym (code-at i) ∙ z)
+
   pub explained : ((b : List ℕ) → result j .file ≡ some b → IsFile b (run j .file)) → Explained j (result j)
   explained charged =
       record {
@@ -187,5 +190,5 @@ module _ (j : Job) (ok : FileOk (j .file)) where
         searches = λ t i l k v.
             search-moves _ _ _ _ _ (whole j ok t l .codes .code i (stage-row (stateAt j t) i (v .unfinished))) k (v .unfinished) (v .idles);
         progress = can-move;
-        finished = λ i l d z. done-code w i (omega (arith, w .rows)) d (sym (code-at i) ∙ z);
+        finished = all-told;
       }
