@@ -22,6 +22,7 @@ use Rattle.laws.specs.ReadBack.{reads}
 use Rattle.laws.specs.Demand3.{demand3}
 use Rattle.laws.specs.PagesTold.{pages-behind}
 use Rattle.laws.specs.MostTurns.{at-most}
+use Rattle.laws.specs.Rounds.{everyone}
 use Rattle.header.specs.declared.Header.{Header}
 use Rattle.header.specs.Counts.{countsOf}
 use Rattle.turn.specs.declared.Row.{Row}
@@ -97,7 +98,7 @@ module _ {b s : List ℕ} {x : List Row} {w : List ℕ} (a : Accepted b s x w) w
   unfolding smallOutput
   enough h c = let z = simp (failed, among-none, among-end) at (neither .1) in (rw c (z .0), rw (← c) at (z .1 .0), z .1 .1 .0)
 
-  -- demand 3 of what is written, and its pages
+  -- demand 3 of what is written, its pages and turns used, and the rounds that finish the job
   written : {t : List ℕ} {y : List Row} {u : List ℕ} {v : ℕ} → Ran b s t x y w u v → Written b t (Done v)
   written {t} {v = v} r =
       let back : readResult t ≡ result (jobOf b) = rw (r .result) (reads b (a .bytes) faultless (drop (length (resultBytes b)) s)) in
@@ -107,6 +108,7 @@ module _ {b s : List ℕ} {x : List Row} {w : List ℕ} (a : Accepted b s x w) w
         explained = rw (r .result) (demand3 b (drop (length (resultBytes b)) s) (a .bytes) faultless);
         told = rw (r .result) (pages-behind b (drop (length (resultBytes b)) s) (a .bytes) faultless);
         within = rw (r .result) (at-most b (drop (length (resultBytes b)) s) (a .bytes) faultless);
+        done = rw (r .result) (everyone b (drop (length (resultBytes b)) s) (a .bytes) faultless);
       }
 
   pub ran : {t : List ℕ} {y : List Row} {u : List ℕ} {v : ℕ} → Ran b s t x y w u v → Settled b s t x y w u (Done v)

@@ -14,6 +14,7 @@ use Rattle.spec.specs.Result.{result, readResult}
 use Rattle.spec.specs.Check.{Lent, firstFault}
 use Rattle.spec.specs.Claims.{Explained, PagesTold}
 use Rattle.spec.specs.MostTurns.{TurnsWithin}
+use Rattle.spec.specs.Rounds.{GetsDone}
 use Rattle.spec.specs.Outcome.{resultBytes, outcome, bufferAfter, rowsAfter, workAfter}
 use Rattle.turn.specs.declared.Row.{Row}
 use Rattle.turn.specs.Rows.{rowImage, blankRow, stageIn}
@@ -34,8 +35,8 @@ pub record Ran (b s t : List ℕ) (x y : List Row) (w u : List ℕ) (v : ℕ) : 
   pub rows : y ≡ replicate (length x) blankRow
   pub work : u ≡ replicate (length w) 0
 
--- DEMAND 3 OF THE BYTES THAT ARE WRITTEN, and the pages and turns used that are told in them: the job b ran, the call answered r, and the result
--- buffer is now t
+-- DEMAND 3 OF THE BYTES THAT ARE WRITTEN, the pages and turns used that are told in them, and how many rounds finish the job: the job b ran, the call
+-- answered r, and the result buffer is now t
 pub record Written (b t : List ℕ) (r : Outcome) : Type 0 where
   -- what is read from the buffer is the job's result: each number fits its field
   pub reads : readResult t ≡ result (jobOf b)
@@ -47,10 +48,12 @@ pub record Written (b t : List ℕ) (r : Outcome) : Type 0 where
   pub told : PagesTold (jobOf b) (readResult t)
   -- and of the turns used: no operation has more than its kind can use
   pub within : TurnsWithin (jobOf b) (readResult t)
+  -- and of rounds of turns: so many finish every operation, and then the result has every answer and a charge file
+  pub done : GetsDone (jobOf b) (readResult t)
 
 -- The whole outcome for the bytes b, accepted or refused: what is answered, and the result buffer, the table and the memory afterwards, which
--- were s, x and w; and where no row of the refusal table holds, so that the job is run, demand 3, the pages and the turns used of the result that
--- is now in the buffer
+-- were s, x and w; and where no row of the refusal table holds, so that the job is run, demand 3 and all else that is claimed of the result that is
+-- now in the buffer
 pub record Settled (b s t : List ℕ) (x y : List Row) (w u : List ℕ) (r : Outcome) : Type 0 where
   pub answer : r ≡ outcome (lent s x w) b
   pub result : t ≡ bufferAfter (lent s x w) b s
