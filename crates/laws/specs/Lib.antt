@@ -28,3 +28,6 @@ pub mod WrongPages
 -- the same for the turns used
 pub mod WeighedTurns
 pub mod RefutesTurns
+-- the same for rounds
+pub mod WeighedRounds
+pub mod RefutesRounds

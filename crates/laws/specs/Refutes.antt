@@ -33,7 +33,7 @@ use Rattle.laws.specs.Weighed.{every, some-of, sameRec, sameFound, sameR
 use Rattle.laws.specs.Weighed.{count, answers, refused, once, noOther, sorted, held, charged, listOnce, fileOnce, order, searches, progressAt, progress, finished, pagesRise, looks}
 
 -- tests joined: when they come out true
-is-not : {a : Bool} → (a ≡ true → ⊥) → not a ≡ true
+pub is-not : {a : Bool} → (a ≡ true → ⊥) → not a ≡ true
 is-not {a = true} h = absurd (h refl)
 is-not {a = false} h = refl
 
@@ -48,7 +48,7 @@ is-or {a = false} h = h refl
 pub is-and : {a b : Bool} → a ≡ true → b ≡ true → (a && b) ≡ true
 is-and p q = rw (p, q)
 
-eqb-same : (n : ℕ) → eqb n n ≡ true
+pub eqb-same : (n : ℕ) → eqb n n ≡ true
 eqb-same n = eq-eqb n n refl
 
 clash : {a : Bool} → a ≡ true → not a ≡ true → ⊥
@@ -76,7 +76,7 @@ every-or n f true h = or-true (every n f)
 every-or n f false h = rw (every-true n f (λ i l. unless (λ d. false≢true (h i l d))))
 
 -- lists: when their tests come out true
-same-true : {A : Type 0} (f : A → A → Bool) → ((a : A) → f a a ≡ true) → {xs ys : List A} → xs ≡ ys → same f xs ys ≡ true
+pub same-true : {A : Type 0} (f : A → A → Bool) → ((a : A) → f a a ≡ true) → {xs ys : List A} → xs ≡ ys → same f xs ys ≡ true
 unfolding same
 same-true f h {xs} e = rw (← e) (go xs)
   where
@@ -121,7 +121,7 @@ callsRise-true flat = refl
 callsRise-true (rise l h) = is-and (true-allOf _ _ (each-imp (λ a u. lt-ltb _ _ u) l)) (callsRise-true h)
 
 -- what a test says that comes out true
-says-done : (x : Stage) → isDone x ≡ true → x ≡ Done
+pub says-done : (x : Stage) → isDone x ≡ true → x ≡ Done
 unfolding isDone
 says-done NotBegun e = cc
 says-done (ReadPage x) e = cc
@@ -135,7 +135,7 @@ undone : {x : Stage} → not (isDone x) ≡ true → x ≡ Done → ⊥
 unfolding isDone
 undone n e = clash (ap isDone e) n
 
-says-search : (k : Kind) → isSearch k ≡ true → k ≡ Search
+pub says-search : (k : Kind) → isSearch k ≡ true → k ≡ Search
 unfolding isSearch
 says-search Search e = refl
 says-search Insert e = cc
