@@ -1,9 +1,12 @@
--- Jobs whose operations use as many turns as any of their kind can, at depths 0, 1 and 8.
+-- Jobs whose operations use as many turns as any of their kind can, at depths 0, 1 and 8; and one that asks how many rounds it needs.
 use Prim.Native.Nat.{ℕ}
 use mathlib.Core.List.{List, [], _∷_, _++_}
 use lib.ListN.{take, drop, replicate}
+use Rattle.spec.specs.declared.Kind.the-variants.{Search, Insert, Delete}
 use Rattle.spec.specs.Basics.{each}
 use Rattle.spec.specs.Bytes.{two, four}
+use Rattle.spec.specs.File.{zeroPage}
+use Rattle.spec.specs.Job.{Job}
 use Rattle.spec.specs.Worked.{jobB}
 
 -- one page, and no split: call 5 is inserted and deleted, and looked for; one after another
@@ -39,3 +42,15 @@ jobWide =
     ++ replicate 96 0  -- pages 2 to 9
     ++ (2 ∷ 0 ∷ []) ++ four 33 ++ four 10  -- operation 0
     ++ each two (replicate 270 0)  -- turns
+
+-- "A hotel with 40 operations", at depth 3: sixteen inserts, twelve deletes and twelve searches
+abbrev pub hotel : Job
+hotel =
+    record {
+      file = record { g = 3; c = 4; limit = 8; used = 1; directory = replicate 8 1; table = replicate 9 zeroPage };
+      ops =
+          replicate 16 (record { kind = Insert; call = 1; charge = 10 })
+          ++ replicate 12 (record { kind = Delete; call = 1; charge = 0 })
+          ++ replicate 12 (record { kind = Search; call = 1; charge = 0 });
+      turns = [];
+    }

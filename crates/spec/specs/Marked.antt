@@ -1,6 +1,6 @@
 -- The marked items of "Jobs worked through" as one table, from job bytes to result bytes, refusal or printed text. One proof covers its rows.
 -- A second table is for calls that rise, a third for the pages told with answers, a fourth for deletes at a charge, a fifth for calls that share
--- a pseudo key, and a sixth for how many turns an operation uses at most.
+-- a pseudo key, a sixth for how many turns an operation uses at most, and a seventh for how many rounds finish a job.
 use Prim.Native.Nat.{ℕ}
 use mathlib.Core.Path.{_≡_, refl}
 use mathlib.Core.List.{List, [], _∷_, _++_, map}
@@ -13,16 +13,18 @@ use Rattle.spec.specs.declared.Kind.the-variants.{Search, Insert, Delete
 use Rattle.spec.specs.Key.{pseudoKey}
 use Rattle.spec.specs.File.{contents}
 use Rattle.spec.specs.Decode.{jobOf}
+use Rattle.spec.specs.Job.{Job}
 use Rattle.spec.specs.Run.{run}
-use Rattle.spec.specs.Result.{Told, Result, readResult}
+use Rattle.spec.specs.Result.{Told, Result, countUnder, readResult}
 use Rattle.spec.specs.PlainList.{Reply, Replay}
 use Rattle.spec.specs.Check.{Lent}
 use Rattle.spec.specs.Outcome.{resultBytes, outcome, bufferAfter}
 use Rattle.spec.specs.Report.{printed}
 use Rattle.spec.specs.Claims.{fed}
-use Rattle.spec.specs.MostTurns.{longest, mostTurns, sharpTurns}
+use Rattle.spec.specs.MostTurns.{longest, mostTurns, sharpTurns, under}
+use Rattle.spec.specs.Rounds.{below, inTurn, mostRounds, allTurns, sharpRounds}
 use Rattle.spec.specs.Worked.{jobB, resultB, textB, jobLong, jobLate, resultLate, jobRest, resultRest, jobC, resultC, jobDeep, resultDeep, jobInsert, resultD, resultE2, jobG, resultG, jobH, resultH, jobI, resultI, jobJ, resultJ, jobRising, resultRising, jobPut, resultPut, jobTaken, resultTaken, jobStrike, resultStruck, resultLeft, jobBursars, textBursars}
-use Rattle.spec.specs.Counted.{jobFlat, jobTeased, jobWide}
+use Rattle.spec.specs.Counted.{jobFlat, jobTeased, jobWide, hotel}
 use Rattle.spec.specs.OneKey.{jobTwo, resultTwo, jobThree, resultThree}
 use Rattle.spec.specs.Opened.{opened}
 
@@ -42,6 +44,9 @@ data Asked : Type 0 where
   most : ℕ → Kind → Asked
   sharp : ℕ → Kind → Asked
   used : List ℕ → Asked
+  rounds : Job → Asked
+  fewer : Job → Asked
+  after : ℕ → List ℕ → Asked
 
 data Said : Type 0 where
   number : ℕ → Said
@@ -51,7 +56,7 @@ data Said : Type 0 where
   numbers : List ℕ → Said
 
 -- (`list`: the plain list fed the whole log, as it is read from the result's bytes, and what the file holds at the end; `used`: the turns used, as
--- they are read from them)
+-- they are read from them; `after`: how many operations are under way after so many rounds, every operation in turn)
 abbrev says : Asked → Said
 says (key call) = number (pseudoKey call)
 says (job b) = ends (outcome lent b) (bufferAfter lent b buffer)
@@ -62,6 +67,9 @@ says (list b) =
 says (most g k) = number (mostTurns g k)
 says (sharp g k) = number (sharpTurns g k)
 says (used b) = numbers (map (λ (a : Told). a .used) (readResult (resultBytes b) .answers))
+says (rounds j) = number (mostRounds j)
+says (fewer j) = number (sharpRounds j)
+says (after k b) = number (countUnder (under (jobOf b) (inTurn (length (jobOf b .ops)) k) .rows))
 
 record Item : Type 0 where
   asked : Asked
@@ -193,6 +201,26 @@ reached =
 most-used : map (λ (m : Item). says (m .asked)) reached ≡ map (λ (m : Item). m .paper) reached
 unfolding opened longest mostTurns sharpTurns
 most-used = refl
+
+-- "A hotel with 40 operations wants to know how long a turn list must be": how many rounds; and job E in rounds, whose searches are finished in the
+-- second, the insert in the ninth, and the delete, which then has to let its page go, in the sixteenth
+abbrev inRounds : List Item
+inRounds =
+    (rounds hotel ⇒ number 1040)
+    ∷ (fewer hotel ⇒ number 560)
+    ∷ (rounds (jobOf jobB) ⇒ number 48)
+    ∷ (fewer (jobOf jobB) ⇒ number 28)
+    ∷ (after 1 jobB ⇒ number 4)
+    ∷ (after 2 jobB ⇒ number 2)
+    ∷ (after 8 jobB ⇒ number 2)
+    ∷ (after 9 jobB ⇒ number 1)
+    ∷ (after 15 jobB ⇒ number 1)
+    ∷ (after 16 jobB ⇒ number 0)
+    ∷ []
+
+rounds-told : map (λ (m : Item). says (m .asked)) inRounds ≡ map (λ (m : Item). m .paper) inRounds
+unfolding opened longest sharpTurns under below inTurn allTurns
+rounds-told = refl
 
 -- a list of some thousand turns computes too
 long-list : says (job jobLong) ≡ ran resultB

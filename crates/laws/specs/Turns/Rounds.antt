@@ -56,10 +56,10 @@ total-within g (r ∷ rs) [] e h = absurd (omega arith)
 total-within g (r ∷ rs) (op ∷ ops) e h = omega (arith, h 0, total-within g rs ops (omega arith) (λ i. h (suc i)))
 
 -- which is within what is asked
-sharp-most : (g : ℕ) (ops : List Op) → allTurns g ops ≤ length ops * longest g
+all-longest : (g : ℕ) (ops : List Op) → allTurns g ops ≤ length ops * longest g
 unfolding allTurns
-sharp-most g [] = omega arith
-sharp-most g (op ∷ ops) = omega (arith, sharp-longest g (op .kind), sharp-most g ops)
+all-longest g [] = omega arith
+all-longest g (op ∷ ops) = omega (arith, sharp-longest g (op .kind), all-longest g ops)
 
 -- an operation that is not idle is unfinished
 moves-unfinished : (l : List Bool) (st : Stage) → idle l st ≡ false → st ≡ Done → ⊥
@@ -176,21 +176,23 @@ module _ (j : Job) where
   in-turn zero = noRound
   in-turn (suc k) = oneMore (in-turn k) (every-round _)
 
-  -- what gets more in every round while operation i is unfinished, and has a bound: after that many rounds the operation is finished
-  module _ (i n : ℕ) (much : State → ℕ)
-      (more : (ts us : List ℕ) → Round j (under j ts) us → Unfinished (under j ts) i → much (under j ts) < much (under j (ts ++ us)))
-      (most : (ts : List ℕ) → much (under j ts) ≤ n)
-    where
-      rounds-much : (k : ℕ) (ts : List ℕ) → Rounds j k ts → Unfinished (under j ts) i → k ≤ much (under j ts)
-      rounds-much zero ts noRound u = omega arith
-      rounds-much (suc k) all (oneMore {ts} {us} r round) u =
-          let v : Unfinished (under j ts) i = λ d. u (under-stay ts us i d) in
-          omega (arith, rounds-much k ts r v, more ts us round v)
+  -- what gets more in every round that begins with operation i unfinished
+  abbrev GetsMore : ℕ → (State → ℕ) → Type 0
+  GetsMore i much =
+      (ts us : List ℕ) → Round j (under j ts) us → Unfinished (under j ts) i → much (under j ts) < much (under j (ts ++ us))
 
-      rounds-end : (k : ℕ) (ts : List ℕ) → n ≤ k → Rounds j k ts → stageOf (under j ts) i ≡ Done
-      rounds-end k ts l r =
-          let us = below (length (j .ops)) in
-          done-or _ (λ u. omega (arith, rounds-much k ts r u, more ts us (every-round (under j ts)) u, most (ts ++ us)))
+  -- if it has a bound, the operation is finished after that many rounds
+  module _ (i n : ℕ) (much : State → ℕ) (more : GetsMore i much) (most : (ts : List ℕ) → much (under j ts) ≤ n) where
+    rounds-much : (k : ℕ) (ts : List ℕ) → Rounds j k ts → Unfinished (under j ts) i → k ≤ much (under j ts)
+    rounds-much zero ts noRound u = omega arith
+    rounds-much (suc k) all (oneMore {ts} {us} r round) u =
+        let v : Unfinished (under j ts) i = λ d. u (under-stay ts us i d) in
+        omega (arith, rounds-much k ts r v, more ts us round v)
+
+    rounds-end : (k : ℕ) (ts : List ℕ) → n ≤ k → Rounds j k ts → stageOf (under j ts) i ≡ Done
+    rounds-end k ts l r =
+        let us = below (length (j .ops)) in
+        done-or _ (λ u. omega (arith, rounds-much k ts r u, more ts us (every-round (under j ts)) u, most (ts ++ us)))
 
 module _ (j : Job) (ok : FileOk (j .file)) where
   under-whole : (ts : List ℕ) → Whole (record { file = j .file; ops = j .ops; turns = ts }) (under j ts)
@@ -198,11 +200,7 @@ module _ (j : Job) (ok : FileOk (j .file)) where
   under-whole ts = end-whole _ ok
 
   -- in a round that begins with an operation unfinished somebody uses a turn, and all together use no more than each can
-  one-used
-      : (i : ℕ) (ts us : List ℕ)
-      → Round j (under j ts) us
-      → Unfinished (under j ts) i
-      → total (under j ts .rows) < total (under j (ts ++ us) .rows)
+  one-used : (i : ℕ) → GetsMore j i (λ s. total (s .rows))
   one-used i ts us round u =
       let w = under-whole ts in
       let p = progress (under j ts) (w .good .locks) i u in
@@ -219,16 +217,10 @@ module _ (j : Job) (ok : FileOk (j .file)) where
 
   -- m × (2^g + 4g + 6) ROUNDS FINISH THEM ALL
   pub most-rounds : (k : ℕ) (ts : List ℕ) → mostRounds j ≤ k → Rounds j k ts → AllDone (under j ts)
-  most-rounds k ts l = sharp-rounds k ts (omega (arith, sharp-most (j .file .g) (j .ops)))
+  most-rounds k ts l = sharp-rounds k ts (omega (arith, all-longest (j .file .g) (j .ops)))
 
   -- a search uses a turn in every round
-  search-used
-      : (i : ℕ)
-      → kindAt j i ≡ Search
-      → (ts us : List ℕ)
-      → Round j (under j ts) us
-      → Unfinished (under j ts) i
-      → rowOf (under j ts) i .used < rowOf (under j (ts ++ us)) i .used
+  search-used : (i : ℕ) → kindAt j i ≡ Search → GetsMore j i (λ s. rowOf s i .used)
   search-used i e ts us round u =
       let w = under-whole ts in
       let l = stage-row (under j ts) i u in
