@@ -26,6 +26,8 @@
 //!   of their own;
 //! - [`make_most_turns`] and [`bounds`]: jobs whose operations use as many turns as
 //!   they can, and how many that is;
+//! - [`make_rounds`] and [`rounds`]: jobs in which many operations want one page, and
+//!   rounds of turns that finish everybody, however badly they are dealt;
 //! - [`by_hand`]: small jobs made by hand, with what their result says;
 //! - [`vectors`]: the stored jobs and files, with what is wanted of them;
 //! - [`tally`] and [`asked`]: how often each number of refusal was met, and each
@@ -52,6 +54,7 @@ pub mod make_asked;
 pub mod make_few_calls;
 pub mod make_months;
 pub mod make_most_turns;
+pub mod make_rounds;
 pub mod make_thin;
 pub mod make_turns;
 pub mod one_key;
@@ -60,6 +63,7 @@ pub mod plain_list;
 pub mod random;
 pub mod report;
 pub mod result;
+pub mod rounds;
 pub mod run;
 pub mod seeds;
 pub mod shared;

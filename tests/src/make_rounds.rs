@@ -1,0 +1,134 @@
+//! Jobs in which many operations want one page, for tests that deal them rounds of
+//! turns.
+
+use std::collections::BTreeSet;
+
+use crate::by_hand::{delete, delete_at, insert, search};
+use crate::examples_parts::{filled, parted_file};
+use crate::file::ChargeFile;
+use crate::job::{Job, Operation, MAX_PAGES};
+use crate::key;
+use crate::random::Random;
+
+/// The calls of the month so far, with their charges.
+const HELD: [(u32, u32); 11] = [
+    (201, 35),
+    (203, 80),
+    (204, 120),
+    (205, 15),
+    (208, 60),
+    (209, 45),
+    (210, 240),
+    (212, 20),
+    (213, 95),
+    (214, 30),
+    (216, 55),
+];
+
+/// The morning's slips: new calls, calls that guests ask about, and calls that are
+/// struck out, some only at the charge on the sheet. Call 221 comes in twice, call
+/// 206 was never made, and call 209 is not at the charge on the sheet.
+const NEW: [(u32, u32); 16] = [
+    (217, 40),
+    (218, 25),
+    (219, 310),
+    (220, 15),
+    (221, 70),
+    (222, 35),
+    (223, 20),
+    (224, 90),
+    (225, 10),
+    (226, 55),
+    (227, 180),
+    (221, 70),
+    (228, 45),
+    (229, 65),
+    (231, 30),
+    (232, 120),
+];
+const ASKED_ABOUT: [u32; 12] = [201, 209, 220, 203, 205, 225, 208, 213, 229, 212, 216, 299];
+const STRUCK_OUT: [(u32, u32); 12] = [
+    (201, 0),
+    (209, 50),
+    (210, 0),
+    (205, 15),
+    (206, 0),
+    (222, 0),
+    (213, 0),
+    (212, 20),
+    (217, 0),
+    (208, 0),
+    (204, 120),
+    (226, 0),
+];
+
+/// A hotel with forty operations at depth 3, four records to a page. Of the file's
+/// three pages two are full; five more are free. The slips come in four lots, each
+/// with four new calls, three that are asked about and three that are struck out.
+pub fn hotel_of_forty() -> Job {
+    let mut operations = Vec::new();
+    for lot in 0..4 {
+        let new = NEW[4 * lot..][..4].iter();
+        let asked_about = ASKED_ABOUT[3 * lot..][..3].iter();
+        let struck_out = STRUCK_OUT[3 * lot..][..3].iter();
+        operations.extend(new.map(|(call, charge)| insert(*call, *charge)));
+        operations.extend(asked_about.map(|call| search(*call)));
+        operations.extend(struck_out.map(|(call, charge)| delete_at(*call, *charge)));
+    }
+    let pages = [(1, 0b0), (2, 0b10), (2, 0b11)];
+    Job {
+        file: filled(parted_file(3, 4, 8, &pages), &HELD),
+        operations,
+        turns: Vec::new(),
+    }
+}
+
+/// A random job without turns whose operations all go for one page, or for the pages
+/// that come of it. Of its calls some have one entry, and the others share a few bits
+/// with these: so inserts split the page again and again.
+pub fn contended(random: &mut Random, depth: u32, capacity: usize) -> Job {
+    let calls = calls_near_one(random, depth, capacity + 6);
+    let page_count = match random.below(4) {
+        0 => random.between(1, 4),
+        _ => (1 << depth).min(MAX_PAGES),
+    };
+    let held = match random.below(4) {
+        0 => random.below(capacity + 1),
+        _ => capacity,
+    };
+    let records: Vec<(u32, u32)> = calls[..held].iter().map(|call| (*call, 50)).collect();
+    let count = random.between(1, 9);
+    Job {
+        file: filled(ChargeFile::empty(depth, capacity, page_count), &records),
+        operations: (0..count).map(|_| operation(random, &calls)).collect(),
+        turns: Vec::new(),
+    }
+}
+
+/// So many calls, all different, in any order.
+fn calls_near_one(random: &mut Random, depth: u32, count: usize) -> Vec<u32> {
+    let hot = random.word();
+    let own = key::index(hot, depth) as u32;
+    let mut calls = BTreeSet::new();
+    while calls.len() < count {
+        let like_it = key::call_with(own, depth, random.below(1000) as u32);
+        calls.insert(match random.below(3) {
+            0 => like_it,
+            _ => key::neighbour(like_it, random.below(depth as usize + 1) as u32),
+        });
+    }
+    let mut calls: Vec<u32> = calls.into_iter().collect();
+    random.shuffle(&mut calls);
+    calls
+}
+
+/// An operation on one of these calls, an insert more often than not.
+fn operation(random: &mut Random, calls: &[u32]) -> Operation {
+    let call = random.one_of(calls);
+    match random.below(10) {
+        0 | 1 => search(call),
+        2 => delete_at(call, random.one_of(&[50, 60])),
+        3 | 4 => delete(call),
+        _ => insert(call, 60),
+    }
+}
