@@ -1,0 +1,131 @@
+//! Every sequence of rounds there is for a small job: the most that one of them needs.
+
+use std::collections::HashMap;
+
+use chargefile_tests::job::Job;
+use chargefile_tests::rounds::Deal;
+use chargefile_tests::run::Run;
+
+/// The most rounds after which somebody is still unfinished, and the one that finishes the last.
+#[derive(Clone, Copy, Debug, PartialEq, Eq)]
+pub struct Most {
+    /// If each round names every unfinished operation once, in any order.
+    pub once: usize,
+    /// If it may name them as often as it likes.
+    pub often: usize,
+    pub states: usize,
+}
+
+/// Goes through all states that turns lead to from the start of a job. There is no such number if some list leads to a state in which somebody is
+/// unfinished and nobody can use a turn: from there on rounds change nothing.
+pub fn most_rounds(job: &Job, deal: Deal) -> Option<Most> {
+    let states = States::of(job, deal)?;
+    let once = Search::new(&states, false).from(0);
+    let often = Search::new(&states, true).from(0);
+    let states = states.unfinished.len();
+    Some(Most {
+        once,
+        often,
+        states,
+    })
+}
+
+/// All states, the start first. A set of operations is a number, with a bit for each.
+struct States {
+    unfinished: Vec<usize>,
+    /// By state and operation: the state after its turn. It is the same if the turn waits, or the operation is finished.
+    after: Vec<Vec<usize>>,
+}
+
+impl States {
+    fn of(job: &Job, deal: Deal) -> Option<States> {
+        let operations = 0..job.operations.len();
+        let start = Run::new(job);
+        let mut numbers = HashMap::from([(key(&start), 0)]);
+        let mut open = vec![start];
+        let (mut unfinished, mut after) = (Vec::new(), Vec::new());
+        // those behind the last that was looked at are still open
+        while let Some(run) = open.get(after.len()).cloned() {
+            let mut nexts = Vec::new();
+            for operation in operations.clone() {
+                let next = turned(&run, operation, deal);
+                let new = numbers.len();
+                let number = *numbers.entry(key(&next)).or_insert(new);
+                if number == new {
+                    open.push(next);
+                }
+                nexts.push(number);
+            }
+            let left = run.unfinished().map(|operation| 1 << operation).sum();
+            let stuck = nexts.iter().all(|next| *next == after.len());
+            if stuck && left != 0 {
+                return None;
+            }
+            unfinished.push(left);
+            after.push(nexts);
+        }
+        Some(States { unfinished, after })
+    }
+}
+
+/// A run after one turn more. Its clock stands still: which turn it is settles moments, but no step asks for it, and by the clock no two states would
+/// be the same.
+fn turned(run: &Run, operation: usize, deal: Deal) -> Run {
+    let mut next = run.clone();
+    deal(&mut next, operation);
+    next.now = 0;
+    next
+}
+
+/// All that the next steps depend on, as a text: directory, pages, pages in use, locks, and the next step of each operation.
+fn key(run: &Run) -> String {
+    let file = &run.shared.file;
+    let locked = |page: &usize| run.shared.locked(*page);
+    let locks: Vec<usize> = (1..=file.pages.len()).filter(locked).collect();
+    let stages: Vec<_> = run.rows.iter().map(|row| &row.progress.stage).collect();
+    let pages = &file.pages[..file.in_use];
+    format!("{:?} {pages:?} {locks:?} {stages:?}", file.directory)
+}
+
+/// The most rounds from each state on.
+struct Search<'a> {
+    states: &'a States,
+    often: bool,
+    /// By state and the operations that are still to be named in the round under way.
+    known: HashMap<(usize, usize), usize>,
+}
+
+impl Search<'_> {
+    fn new(states: &States, often: bool) -> Search<'_> {
+        Search {
+            states,
+            often,
+            known: HashMap::new(),
+        }
+    }
+
+    /// The most rounds that begin in this state or later.
+    fn from(&mut self, state: usize) -> usize {
+        match self.states.unfinished[state] {
+            0 => 0,
+            all => 1 + self.within(state, all),
+        }
+    }
+
+    /// The most that begin after a round under way in which these are still to be named.
+    fn within(&mut self, state: usize, due: usize) -> usize {
+        if let Some(known) = self.known.get(&(state, due)) {
+            return *known;
+        }
+        let mut most = if due == 0 { self.from(state) } else { 0 };
+        for operation in 0..self.states.after[state].len() {
+            let next = self.states.after[state][operation];
+            let is_due = due >> operation & 1 == 1;
+            if is_due || (self.often && next != state) {
+                most = most.max(self.within(next, due & !(1 << operation)));
+            }
+        }
+        self.known.insert((state, due), most);
+        most
+    }
+}
