@@ -87,6 +87,12 @@ pub fn hotel_of_forty() -> Job {
 /// that come of it. Of its calls some have one entry, and the others share a few bits
 /// with these: so inserts split the page again and again.
 pub fn contended(random: &mut Random, depth: u32, capacity: usize) -> Job {
+    let count = random.between(1, 9);
+    contended_by(random, depth, capacity, count)
+}
+
+/// The same with so many operations.
+pub fn contended_by(random: &mut Random, depth: u32, capacity: usize, count: usize) -> Job {
     let calls = calls_near_one(random, depth, capacity + 6);
     let page_count = match random.below(4) {
         0 => random.between(1, 4),
@@ -97,7 +103,6 @@ pub fn contended(random: &mut Random, depth: u32, capacity: usize) -> Job {
         _ => capacity,
     };
     let records: Vec<(u32, u32)> = calls[..held].iter().map(|call| (*call, 50)).collect();
-    let count = random.between(1, 9);
     Job {
         file: filled(ChargeFile::empty(depth, capacity, page_count), &records),
         operations: (0..count).map(|_| operation(random, &calls)).collect(),

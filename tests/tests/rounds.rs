@@ -3,11 +3,12 @@
 //!
 //! By the tests' own implementation; `rounds_library.rs` has the library, `rounds_wrong.rs` machines that are wrong.
 
-use chargefile_tests::bounds::{Held, DEPTHS};
+use chargefile_tests::answer::{Code, CODES};
+use chargefile_tests::bounds::{Held, DEPTHS, KINDS};
 use chargefile_tests::by_hand::{self, delete, insert, search};
 use chargefile_tests::check;
 use chargefile_tests::examples::examples;
-use chargefile_tests::job::{Job, MAX_CAPACITY, MAX_TURNS};
+use chargefile_tests::job::{Job, MAX_CAPACITY, MAX_OPERATIONS, MAX_TURNS};
 use chargefile_tests::make;
 use chargefile_tests::make_most_turns::{misled, to_the_longest, wide, Home};
 use chargefile_tests::make_rounds::{contended, hotel_of_forty};
@@ -22,10 +23,24 @@ use chargefile_tests::vectors;
 use chargefile_tests::Outcome;
 
 /// Random jobs of each depth and capacity.
-const CONTENDED: u64 = 30;
+const CONTENDED: u64 = 40;
 
 /// Random jobs with a list of their own.
 const JOBS: u64 = 2_000;
+
+/// Rounds and turns in which a hotel's forty operations at depth 3 are finished, by dealer. 1,040 rounds are said to be enough.
+const HOTEL: [(Dealer, usize, usize); DEALERS.len()] = [
+    (Dealer::Rising, 58, 828),
+    (Dealer::Falling, 65, 790),
+    (Dealer::AnyOrder, 55, 815),
+    (Dealer::WaitingFirst, 72, 971),
+    (Dealer::LocksFirst, 72, 971),
+    (Dealer::Wasteful, 72, 10_374),
+    (Dealer::Slowest, 72, 971),
+    (Dealer::OneAhead, 22, 520),
+    (Dealer::Everyone, 58, 2_320),
+    (Dealer::EveryoneFalling, 65, 2_600),
+];
 
 /// What was met over all jobs.
 #[derive(Debug, Default)]
@@ -237,4 +252,65 @@ fn lists_of_random_jobs() {
             ("most rounds of one that has not yet", most, 100),
         ]);
     }
+}
+
+/// The hotel is one: forty operations of all kinds, answers of all kinds but those for want of room, pages that split while others wait for them.
+#[test]
+fn a_hotel_with_forty_operations() {
+    let hotel = hotel_of_forty();
+    let of_kind = |kind| hotel.operations.iter().filter(|o| o.kind == kind).count();
+    assert_eq!(KINDS.map(of_kind), [12, 16, 12]);
+    assert_eq!((hotel.file.depth, hotel.file.capacity), (3, 4));
+    assert_eq!(check(&hotel.to_bytes()), None);
+    for (dealer, rounds, turns) in HOTEL {
+        let dealt = finishes(&hotel, dealer);
+        assert_eq!(
+            (dealt.rounds, dealt.turns.len()),
+            (rounds, turns),
+            "{dealer:?}"
+        );
+        let codes: Vec<Code> = dealt.run.answers().iter().map(|a| a.code).collect();
+        let met = CODES.map(|code| codes.contains(&code));
+        assert_eq!(
+            met,
+            [false, true, true, true, true, true, true, false, false, true]
+        );
+        let tally = &dealt.run.shared.tally;
+        assert!(tally.splits >= 3 && tally.retries >= 6 && dealt.run.waits >= 200);
+    }
+}
+
+/// Deals every operation in turn, from 0 on, as many rounds as are enough. Gives back the number of turns, and that of the last one that did something.
+fn everyone_in_turn(job: &Job) -> (usize, usize) {
+    let mut run = Run::new(job);
+    for _ in 0..enough(job) {
+        for operation in 0..job.operations.len() {
+            run.deal(operation);
+        }
+    }
+    assert_eq!(run.unfinished().count(), 0);
+    let used: Vec<usize> = run.rows.iter().map(|row| row.used).collect();
+    Held::default().hold_all(job, &used);
+    let last = run.rows.iter().filter_map(|row| row.ended_on).max();
+    // those behind it change nothing
+    let mut first = Run::new(job);
+    let needed = last.expect("an operation") + 1;
+    first.deal_all(
+        &(0..needed)
+            .map(|turn| turn % job.operations.len())
+            .collect::<Vec<_>>(),
+    );
+    assert_eq!(first.contents(), run.contents());
+    (run.now, needed - 1)
+}
+
+/// "This is about the steps under a list of any length, also one longer than a job can carry": as long as is said for the hotel, and for the most
+/// operations at the greatest depth.
+#[test]
+fn a_list_longer_than_a_job_can_carry() {
+    assert_eq!(everyone_in_turn(&hotel_of_forty()), (41_600, 2_318));
+    let most = misled(8, 8, MAX_OPERATIONS - 8 - 8 - 1);
+    let (turns, last) = everyone_in_turn(&most);
+    assert_eq!(turns, 256 * 294 * 256);
+    assert!(last > MAX_TURNS && last < turns / 100, "{last}");
 }

@@ -1,4 +1,6 @@
 //! The turns used as results tell them, by the library and by the tests' own implementation, after each turn of a list.
+// each test program uses its own part of these
+#![allow(dead_code)]
 
 use chargefile_tests::bounds::{within, Held};
 use chargefile_tests::check::least_lent;
