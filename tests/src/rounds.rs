@@ -11,7 +11,7 @@ use std::collections::BTreeSet;
 use crate::bounds::{reached, said};
 use crate::job::{Job, Kind, Operation};
 use crate::random::Random;
-use crate::run::Run;
+use crate::run::{Row, Run};
 use crate::turn::{Stage, Turned};
 
 /// "In an accepted job with m operations and depth g, m × (2^g + 4g + 6) rounds
@@ -99,7 +99,7 @@ pub const DEALERS: [Dealer; 10] = [
 /// How often a wasteful round names an operation that cannot use a turn.
 const OVER_AND_OVER: usize = 4;
 
-/// How many turns the one gets that gets ahead.
+/// By how many turns one gets ahead.
 const AHEAD: usize = 7;
 
 impl Dealer {
@@ -211,7 +211,7 @@ impl Dealt {
     /// The number of the last turn that did something: it finished the last
     /// operation.
     pub fn last_needed(&self) -> Option<usize> {
-        let ended = |row: &crate::run::Row| row.ended_on.expect("all are finished");
+        let ended = |row: &Row| row.ended_on.expect("all are finished");
         self.run.rows.iter().map(ended).max()
     }
 }
@@ -242,7 +242,7 @@ pub fn deal_rounds(job: &Job, dealer: Dealer, deal: Deal) -> Result<Dealt, Wrong
 
 /// Of each operation its turns used, and whether it is finished.
 fn counts(run: &Run) -> Vec<(usize, bool)> {
-    let count = |row: &crate::run::Row| (row.used, row.progress.finished());
+    let count = |row: &Row| (row.used, row.progress.finished());
     run.rows.iter().map(count).collect()
 }
 

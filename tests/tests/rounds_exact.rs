@@ -5,7 +5,7 @@
 
 mod every_round;
 
-use chargefile_tests::bounds::reached;
+use chargefile_tests::bounds::{reached, said};
 use chargefile_tests::by_hand::{delete, delete_at, insert, search};
 use chargefile_tests::examples_parts::filled;
 use chargefile_tests::file::ChargeFile;
@@ -13,21 +13,21 @@ use chargefile_tests::job::{Job, Kind, Operation};
 use chargefile_tests::key;
 use chargefile_tests::make;
 use chargefile_tests::random::Random;
-use chargefile_tests::rounds::{deal_rounds, enough, most_used, Dealer, DEALERS};
+use chargefile_tests::rounds::{deal_rounds, enough, most_used, DEALERS};
 use chargefile_tests::run::Run;
 use chargefile_tests::seeds::few_seeds;
 use every_round::{most_rounds, Most};
 
-/// By depth, 0 to 2, and operations, 1 to 3: the most rounds that any sequence of rounds needs in the jobs below; the most turns that inserts use together;
-/// and what is said to be enough.
+/// By depth, 0 to 2, and operations, 1 to 3: the most rounds that any sequence of rounds needs in the jobs below; the most turns that so many inserts
+/// use together; and what is said to be enough.
 const NEEDED: [[(usize, usize, usize); 3]; 3] = [
     [(6, 6, 7), (11, 12, 14), (16, 18, 21)],
     [(9, 9, 12), (17, 18, 24), (22, 27, 36)],
     [(12, 12, 18), (21, 24, 36), (29, 36, 54)],
 ];
 
-/// A file of one page, full of calls with this entry, and operations that want this page: each answer that there is but `no page`, and inserts that split
-/// the page once or as often as can be, and move the calls of some others to new pages.
+/// A file of one page, full of calls with this entry, and operations that want this page: among them inserts that split it once, or as often as can be,
+/// and move the calls of others to new pages. They come to each answer that there is but `no page`.
 fn file_and_operations(depth: u32, capacity: usize, entry: u32) -> (ChargeFile, Vec<Operation>) {
     let like_these = |rest: u32| key::call_with(entry, depth, rest);
     let held: Vec<u32> = (1..=capacity as u32).map(like_these).collect();
@@ -52,9 +52,10 @@ fn file_and_operations(depth: u32, capacity: usize, entry: u32) -> (ChargeFile, 
     (file, operations)
 }
 
-/// All jobs with this file and one to three of these operations, the same one more than once too. Which has which number does not matter: rounds come
+/// All jobs with such a file and one to three of its operations, the same one more than once too. Which has which number does not matter: rounds come
 /// in every order.
-fn jobs_of(file: &ChargeFile, operations: &[Operation]) -> Vec<Job> {
+fn small_jobs(depth: u32, capacity: usize, entry: u32) -> Vec<Job> {
+    let (file, operations) = file_and_operations(depth, capacity, entry);
     let mut chosen: Vec<Vec<usize>> = Vec::new();
     for a in 0..operations.len() {
         chosen.push(vec![a]);
@@ -71,23 +72,36 @@ fn jobs_of(file: &ChargeFile, operations: &[Operation]) -> Vec<Job> {
     chosen.iter().map(job).collect()
 }
 
-/// No sequence of rounds needs more than is said, nor than the turns that all operations can use together, nor does a dealer find a longer one. Gives back
-/// the most that one needs, and whether some dealer needs as many.
+/// No sequence of rounds needs more than is said, nor than the turns that all operations can use together; a search is finished after 2g + 3 rounds,
+/// whatever the others do. No dealer finds a longer sequence. Gives back the most, and whether some dealer needs as many.
 fn held_to_all_rounds(job: &Job) -> (Most, bool) {
     let most = most_rounds(job, Run::deal).expect("somebody can use a turn");
     assert!(most.often <= enough(job), "{most:?} in {job:?}");
     assert!(most.often <= most_used(job), "{most:?} in {job:?}");
     assert!(most.once <= most.often);
-    let mut longest = 0;
-    for dealer in DEALERS {
-        let rounds = deal_rounds(job, dealer, Run::deal).unwrap().rounds;
-        assert!(rounds <= most.often, "{dealer:?} {rounds} {most:?}");
-        if !matches!(dealer, Dealer::OneAhead) {
-            assert!(rounds <= most.once, "{dealer:?} {rounds} {most:?}");
-        }
-        longest = longest.max(rounds);
+    // all are finished when the last one is
+    assert_eq!(
+        most.each.iter().copied().max(),
+        (!most.each.is_empty()).then_some(most.often)
+    );
+    for rounds in searches(job, &most) {
+        assert!(rounds <= said(Kind::Search, job.file.depth), "{job:?}");
     }
-    (most, longest == most.often)
+    let rounds = |dealer| deal_rounds(job, dealer, Run::deal).unwrap().rounds;
+    let dealt = DEALERS.map(rounds);
+    assert!(
+        dealt.iter().all(|rounds| *rounds <= most.often),
+        "{dealt:?}"
+    );
+    let as_many = dealt.contains(&most.often);
+    (most, as_many)
+}
+
+/// The most rounds until each of the searches is finished.
+fn searches<'a>(job: &'a Job, most: &'a Most) -> impl Iterator<Item = usize> + 'a {
+    let each = job.operations.iter().zip(&most.each);
+    let searches = each.filter(|(operation, _)| operation.kind == Kind::Search);
+    searches.map(|(_, rounds)| *rounds)
 }
 
 /// In none of these jobs it takes more rounds if they may name an operation more than once: a turn that it uses then is one that it does not use later.
@@ -95,23 +109,21 @@ fn held_to_all_rounds(job: &Job) -> (Most, bool) {
 fn the_most_rounds_of_small_jobs() {
     let (mut jobs, mut found, mut states) = (0, 0, 0);
     for (depth, needed) in (0..).zip(NEEDED) {
-        let mut longest = [0; 3];
-        for (capacity, entry) in [1, 2]
-            .into_iter()
-            .flat_map(|c| (0..1 << depth).map(move |j| (c, j)))
-        {
-            let (file, operations) = file_and_operations(depth, capacity, entry);
-            for job in jobs_of(&file, &operations) {
-                let (most, reached) = held_to_all_rounds(&job);
-                assert_eq!(most.once, most.often, "{job:?}");
-                let longest = &mut longest[job.operations.len() - 1];
-                *longest = most.often.max(*longest);
-                jobs += 1;
-                found += usize::from(reached);
-                states += most.states;
-            }
+        let (mut longest, mut search) = ([0; 3], 0);
+        let entries = 0..1 << depth;
+        let each = entries.flat_map(|entry| [1, 2].map(|capacity| (capacity, entry)));
+        for job in each.flat_map(|(capacity, entry)| small_jobs(depth, capacity, entry)) {
+            let (most, as_many) = held_to_all_rounds(&job);
+            assert_eq!(most.once, most.often, "{job:?}");
+            let longest = &mut longest[job.operations.len() - 1];
+            *longest = most.often.max(*longest);
+            search = searches(&job, &most).fold(search, usize::max);
+            jobs += 1;
+            found += usize::from(as_many);
+            states += most.states;
         }
         assert_eq!(longest, needed.map(|(most, _, _)| most), "depth {depth}");
+        assert_eq!(search, said(Kind::Search, depth), "depth {depth}");
     }
     println!("{jobs} jobs, {states} states; in {found} a dealer needs the most");
     assert!(jobs > 2_000 && states > 200_000 && 3 * found > 2 * jobs);

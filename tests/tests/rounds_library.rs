@@ -10,6 +10,7 @@ use chargefile_tests::bounds::{Held, DEPTHS};
 use chargefile_tests::examples::examples;
 use chargefile_tests::job::{Job, Kind, MAX_CAPACITY, MAX_TURNS};
 use chargefile_tests::little_endian::{four_at, two_at};
+use chargefile_tests::make;
 use chargefile_tests::make_most_turns::{misled, wide, Home};
 use chargefile_tests::make_rounds::{contended, contended_by, hotel_of_forty};
 use chargefile_tests::random::Random;
@@ -24,6 +25,9 @@ use counted::{by_both, counts};
 
 /// Random jobs of each depth and capacity.
 const CONTENDED: u64 = 20;
+
+/// Random jobs of any size.
+const RANDOM: u64 = 150;
 
 /// What was met over all jobs.
 #[derive(Debug, Default)]
@@ -44,8 +48,8 @@ fn with_list(job: &Job, turns: &[usize]) -> Job {
     }
 }
 
-/// A result in which all is done, told by its bytes: no code is 0, so that the log has a line for each operation; none is begun but unfinished; and there
-/// is a charge file, behind the log, with the file as this run has left it.
+/// A result in which all is done, by its bytes: no code is 0, so that the log has a line for each operation; none is begun but unfinished; and there is
+/// a charge file behind the log, with the file as this run has left it.
 fn all_done(job: &Job, result: &[u8], run: &Run) {
     let m = job.operations.len();
     assert!(answer_bytes(result, m).all(|answer| answer[0] != 0));
@@ -152,6 +156,20 @@ fn contended_jobs() {
     if whole {
         met.held.all_met(&DEPTHS, 100);
         assert_eq!(met.too_long, 0);
+    }
+}
+
+/// Jobs of any size, many of them with more operations.
+#[test]
+fn random_jobs() {
+    let mut met = Met::default();
+    let whole = few_seeds(RANDOM, |seed| {
+        let job = make::job(&mut Random::new(seed, "library rounds"));
+        the_library_finishes_all(&job, &mut met);
+    });
+    if whole {
+        met.held.all_met(&DEPTHS, 100);
+        assert!(met.lists > 1_000, "{} lists", met.lists);
     }
 }
 

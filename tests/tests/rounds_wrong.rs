@@ -1,7 +1,9 @@
-//! Machines that are wrong on purpose, each by one step: rounds of turns do not finish everybody under them, and what asks after each round whether it did
-//! its part says so. The right machine passes with the same jobs.
+//! Machines that are wrong on purpose, each by one step: under them rounds of turns do not come to what is said of them, and what asks after each round
+//! whether it did its part says so. The right machine passes with the same jobs.
 
 mod every_round;
+
+use std::ops::Range;
 
 use chargefile_tests::by_hand::{self, delete, delete_at, insert, search, CALLS_BY_FIRST_BITS};
 use chargefile_tests::job::Job;
@@ -134,15 +136,15 @@ fn one_splits() -> Job {
     by_hand::job(&file, &operations, &[])
 }
 
-/// Deals rounds by a machine that gets stuck. The checks say so after the first round in which nobody used a turn; and nobody can use one ever, so that as
-/// many rounds more as are enough change nothing.
+/// Deals rounds by a machine that gets stuck. The checks say so after the first round in which nobody used a turn; and nobody can use one ever, so that
+/// as many rounds more as are enough change nothing.
 fn gets_stuck(job: &Job, dealer: Dealer, wrong: Deal) {
     let told = deal_rounds(job, dealer, wrong);
     let Err(Wrong::NobodyUsedATurn(rounds)) = told else {
         panic!("{dealer:?}: {told:?}");
     };
     let mut run = Run::new(job);
-    let deal_more = |run: &mut Run, numbers: std::ops::Range<usize>| {
+    let deal_more = |run: &mut Run, numbers: Range<usize>| {
         for number in numbers {
             let round = dealer.next_round(run, number, wrong);
             assert!(is_round(run, &round));

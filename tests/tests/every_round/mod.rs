@@ -6,13 +6,15 @@ use chargefile_tests::job::Job;
 use chargefile_tests::rounds::Deal;
 use chargefile_tests::run::Run;
 
-/// The most rounds after which somebody is still unfinished, and the one that finishes the last.
-#[derive(Clone, Copy, Debug, PartialEq, Eq)]
+/// The most rounds that are needed.
+#[derive(Clone, Debug, PartialEq, Eq)]
 pub struct Most {
-    /// If each round names every unfinished operation once, in any order.
+    /// Until all operations are finished, if each round names every unfinished one once, in any order.
     pub once: usize,
-    /// If it may name them as often as it likes.
+    /// The same if it may name them as often as it likes.
     pub often: usize,
+    /// Until each of the operations is finished, if it may.
+    pub each: Vec<usize>,
     pub states: usize,
 }
 
@@ -20,13 +22,13 @@ pub struct Most {
 /// unfinished and nobody can use a turn: from there on rounds change nothing.
 pub fn most_rounds(job: &Job, deal: Deal) -> Option<Most> {
     let states = States::of(job, deal)?;
-    let once = Search::new(&states, false).from(0);
-    let often = Search::new(&states, true).from(0);
-    let states = states.unfinished.len();
+    let all = states.unfinished[0];
+    let until_finished = |operation: usize| Search::new(&states, true, 1 << operation).from(0);
     Some(Most {
-        once,
-        often,
-        states,
+        once: Search::new(&states, false, all).from(0),
+        often: Search::new(&states, true, all).from(0),
+        each: (0..job.operations.len()).map(until_finished).collect(),
+        states: states.unfinished.len(),
     })
 }
 
@@ -87,29 +89,32 @@ fn key(run: &Run) -> String {
     format!("{:?} {pages:?} {locks:?} {stages:?}", file.directory)
 }
 
-/// The most rounds from each state on.
+/// The most rounds from each state on, until these operations are finished.
 struct Search<'a> {
     states: &'a States,
     often: bool,
+    until: usize,
     /// By state and the operations that are still to be named in the round under way.
     known: HashMap<(usize, usize), usize>,
 }
 
 impl Search<'_> {
-    fn new(states: &States, often: bool) -> Search<'_> {
+    fn new(states: &States, often: bool, until: usize) -> Search<'_> {
         Search {
             states,
             often,
+            until,
             known: HashMap::new(),
         }
     }
 
     /// The most rounds that begin in this state or later.
     fn from(&mut self, state: usize) -> usize {
-        match self.states.unfinished[state] {
-            0 => 0,
-            all => 1 + self.within(state, all),
+        let unfinished = self.states.unfinished[state];
+        if unfinished & self.until == 0 {
+            return 0;
         }
+        1 + self.within(state, unfinished)
     }
 
     /// The most that begin after a round under way in which these are still to be named.
