@@ -57,11 +57,11 @@ fn file_and_operations(depth: u32, capacity: usize, entry: u32) -> (ChargeFile, 
 fn small_jobs(depth: u32, capacity: usize, entry: u32) -> Vec<Job> {
     let (file, operations) = file_and_operations(depth, capacity, entry);
     let mut chosen: Vec<Vec<usize>> = Vec::new();
-    for a in 0..operations.len() {
-        chosen.push(vec![a]);
-        for b in a..operations.len() {
-            chosen.push(vec![a, b]);
-            chosen.extend((b..operations.len()).map(|c| vec![a, b, c]));
+    for one in 0..operations.len() {
+        chosen.push(vec![one]);
+        for two in one..operations.len() {
+            chosen.push(vec![one, two]);
+            chosen.extend((two..operations.len()).map(|three| vec![one, two, three]));
         }
     }
     let job = |chosen: &Vec<usize>| Job {
@@ -104,7 +104,7 @@ fn searches<'a>(job: &'a Job, most: &'a Most) -> impl Iterator<Item = usize> + '
     searches.map(|(_, rounds)| *rounds)
 }
 
-/// In none of these jobs it takes more rounds if they may name an operation more than once: a turn that it uses then is one that it does not use later.
+/// In none of these jobs does it take more rounds if they may name an operation more than once.
 #[test]
 fn the_most_rounds_of_small_jobs() {
     let (mut jobs, mut found, mut states) = (0, 0, 0);
@@ -134,13 +134,13 @@ fn the_most_rounds_of_small_jobs() {
 fn the_table_by_hand() {
     for (depth, needed) in (0..).zip(NEEDED) {
         let (file, _) = file_and_operations(depth, 1, 0);
-        for (count, (most, used, said)) in (1..).zip(needed) {
+        for (count, (most, used, promised)) in (1..).zip(needed) {
             let job = Job {
                 file: file.clone(),
                 operations: vec![insert(7, 1); count],
                 turns: Vec::new(),
             };
-            assert_eq!((most_used(&job), enough(&job)), (used, said));
+            assert_eq!((most_used(&job), enough(&job)), (used, promised));
             assert_eq!(used, count * reached(Kind::Insert, depth));
             assert!(most <= used);
         }

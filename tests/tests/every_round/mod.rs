@@ -23,10 +23,10 @@ pub struct Most {
 pub fn most_rounds(job: &Job, deal: Deal) -> Option<Most> {
     let states = States::of(job, deal)?;
     let all = states.unfinished[0];
-    let until_finished = |operation: usize| Search::new(&states, true, 1 << operation).from(0);
+    let until_finished = |operation: usize| Longest::new(&states, true, 1 << operation).from(0);
     Some(Most {
-        once: Search::new(&states, false, all).from(0),
-        often: Search::new(&states, true, all).from(0),
+        once: Longest::new(&states, false, all).from(0),
+        often: Longest::new(&states, true, all).from(0),
         each: (0..job.operations.len()).map(until_finished).collect(),
         states: states.unfinished.len(),
     })
@@ -90,7 +90,7 @@ fn key(run: &Run) -> String {
 }
 
 /// The most rounds from each state on, until these operations are finished.
-struct Search<'a> {
+struct Longest<'a> {
     states: &'a States,
     often: bool,
     until: usize,
@@ -98,9 +98,9 @@ struct Search<'a> {
     known: HashMap<(usize, usize), usize>,
 }
 
-impl Search<'_> {
-    fn new(states: &States, often: bool, until: usize) -> Search<'_> {
-        Search {
+impl Longest<'_> {
+    fn new(states: &States, often: bool, until: usize) -> Longest<'_> {
+        Longest {
             states,
             often,
             until,
