@@ -6,6 +6,7 @@ use std::collections::BTreeSet;
 use crate::by_hand::{delete, delete_at, insert, search};
 use crate::examples_parts::{brimful, even_file, filled, parted_file, record, rounds};
 use crate::job::{Job, MAX_CAPACITY, MAX_DEPTH, MAX_OPERATIONS, MAX_PAGES, MAX_TURNS};
+use crate::make_rounds::hotel_of_forty;
 
 /// A job with its name: examples/NAME.job has its bytes.
 pub struct Example {
@@ -48,6 +49,7 @@ pub fn examples() -> Vec<Example> {
         example("wide", wide()),
         // Page 1 stands at 36, and its count one behind: two records, not three.
         edited("leftover", leftover(), Some((37, 2))),
+        example("forty", forty()),
         example("month", month()),
     ]
 }
@@ -346,6 +348,15 @@ fn leftover() -> Job {
         operations: vec![search(256)],
         turns: rounds(&[0], 3),
     }
+}
+
+/// A hotel's forty operations at once, every one of them in turn: fifty-eight
+/// rounds, the last of which finishes the last of them.
+fn forty() -> Job {
+    let hotel = hotel_of_forty();
+    let all: Vec<usize> = (0..hotel.operations.len()).collect();
+    let turns = rounds(&all, 58);
+    Job { turns, ..hotel }
 }
 
 /// A whole month at the limits. 128 pages are full to the brim, so each of the

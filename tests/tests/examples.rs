@@ -98,7 +98,7 @@ fn calls(job: &Job) -> BTreeSet<u32> {
 #[test]
 fn the_readme_has_the_first_bits_of_each_call() {
     let mut small = examples();
-    small.retain(|example| example.name != "month");
+    small.retain(|example| !["forty", "month"].contains(&example.name));
     let all: BTreeSet<u32> = small.iter().flat_map(|e| calls(&e.job)).collect();
     let beginning = |entry: usize| -> String {
         let there = all.iter().filter(|call| index(**call, 4) == entry);

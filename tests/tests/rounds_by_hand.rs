@@ -8,7 +8,8 @@ use chargefile_tests::answer::{Code, CODES};
 use chargefile_tests::bounds::{Held, DEPTHS, KINDS};
 use chargefile_tests::by_hand::{self, delete, insert, search};
 use chargefile_tests::check;
-use chargefile_tests::job::{Job, MAX_OPERATIONS, MAX_TURNS};
+use chargefile_tests::examples::examples;
+use chargefile_tests::job::{Job, Kind, MAX_OPERATIONS, MAX_TURNS};
 use chargefile_tests::make_most_turns::misled;
 use chargefile_tests::make_rounds::{contended, hotel_of_forty};
 use chargefile_tests::random::Random;
@@ -163,6 +164,30 @@ fn a_hotel_with_forty_operations() {
         let tally = &dealt.run.shared.tally;
         assert!(tally.splits >= 3 && tally.retries >= 6 && dealt.run.waits >= 200);
     }
+}
+
+/// What examples/README.md says of the same forty, every one of them in turn: in the third round the last search is finished, and in the last, two deletes.
+#[test]
+fn the_example_needs_each_of_its_rounds() {
+    let example = examples()
+        .into_iter()
+        .find(|example| example.name == "forty");
+    let job = example.expect("examples/forty.job").job;
+    let mut run = Run::new(&job);
+    run.deal_all(&job.turns);
+    assert_eq!(job.turns.len(), 58 * 40);
+    let full = |number: &usize| job.file.page(*number).records.len() == 4;
+    assert_eq!((job.file.in_use, (1..=3).filter(full).count()), (3, 2));
+    assert_eq!(run.rows.iter().map(|row| row.used).max(), Some(12));
+    let round = |operation: usize| run.rows[operation].ended_on.expect("finished") / 40 + 1;
+    let is_search = |operation: &usize| job.operations[*operation].kind == Kind::Search;
+    assert_eq!((0..40).filter(is_search).map(round).max(), Some(3));
+    let last: Vec<usize> = (0..40)
+        .filter(|operation| round(*operation) == 58)
+        .collect();
+    assert_eq!(last, [37, 38]);
+    let call = |operation: usize| job.operations[operation].call;
+    assert_eq!((call(37), call(38)), (208, 204));
 }
 
 /// Deals every operation in turn, from 0 on, as many rounds as are enough. All are finished, and the turns behind the last that did something change

@@ -1,12 +1,15 @@
-//! docs/TURNS.md: its two tables of turns are what the turns do, and its table of the most turns has what is reached (most_turns.rs).
+//! docs/TURNS.md: its two tables of turns are what the turns do, its table of the most turns has what is reached (most_turns.rs), and its tables of rounds
+//! have how many are enough, and how many a hotel's forty operations take (rounds_by_hand.rs).
 
 use std::fs;
 use std::path::Path;
 
 use chargefile_tests::bounds::{reached, DEPTHS};
 use chargefile_tests::file::ChargeFile;
-use chargefile_tests::job::{Job, Kind, Operation};
+use chargefile_tests::job::{Job, Kind, Operation, MAX_TURNS};
+use chargefile_tests::make_rounds::hotel_of_forty;
 use chargefile_tests::page::{Page, Record};
+use chargefile_tests::rounds::{deal_rounds, enough, DEALERS};
 use chargefile_tests::run::Run;
 
 /// The cells of each line of a table, from the turn to the turns used.
@@ -137,5 +140,50 @@ fn the_most_turns() {
         let numbers = DEPTHS.map(|depth| reached(kind, depth).to_string());
         assert_eq!(row[0], name);
         assert_eq!(row[2..], numbers, "{name}");
+    }
+}
+
+/// Without the comma of a thousand.
+fn number(cell: &str) -> usize {
+    cell.replace(',', "").parse().expect("a number")
+}
+
+/// A job of this depth with so many operations.
+fn with_operations(depth: u32, count: usize) -> Job {
+    let operation = Operation {
+        kind: Kind::Insert,
+        call: 8,
+        charge: 30,
+    };
+    Job {
+        file: ChargeFile::empty(depth, 2, 3),
+        operations: vec![operation; count],
+        turns: vec![],
+    }
+}
+
+/// For one operation, for forty; and the most for which rounds of all of them fit into a job.
+#[test]
+fn rounds_that_are_enough() {
+    let table = table("| | g = 0 | 1 | 2 |");
+    assert_eq!(table.len(), 3);
+    for depth in DEPTHS {
+        let cell = |row: usize| number(&table[row][1 + depth as usize]);
+        let rounds = |count| enough(&with_operations(depth, count));
+        let fits = |count: &usize| count * rounds(*count) <= MAX_TURNS;
+        assert_eq!((cell(0), cell(1)), (rounds(1), rounds(40)));
+        assert_eq!(cell(2), (1..).take_while(fits).count());
+    }
+}
+
+/// A row for each dealer, in their order.
+#[test]
+fn rounds_of_the_hotel() {
+    let table = table("| Each round names |");
+    assert_eq!(table.len(), DEALERS.len());
+    for (row, dealer) in table.iter().zip(DEALERS) {
+        let dealt = deal_rounds(&hotel_of_forty(), dealer, Run::deal).unwrap();
+        let told = (number(&row[1]), number(&row[2]));
+        assert_eq!(told, (dealt.rounds, dealt.turns.len()), "{dealer:?}");
     }
 }
