@@ -1,14 +1,21 @@
-//! Jobs in which many operations want one page, for tests that deal them rounds of
-//! turns.
+//! Jobs for tests that deal rounds of turns: those that are stored, those of the most
+//! turns, and jobs in which many operations want one page.
 
 use std::collections::BTreeSet;
+use std::iter;
 
+use crate::bounds::DEPTHS;
 use crate::by_hand::{delete, delete_at, insert, search};
+use crate::check;
+use crate::examples::{examples, Example};
 use crate::examples_parts::{filled, parted_file};
 use crate::file::ChargeFile;
-use crate::job::{Job, Operation, MAX_PAGES};
+use crate::job::{Job, Operation, MAX_CAPACITY, MAX_PAGES};
 use crate::key;
+use crate::make_most_turns::{misled, wide, Home};
 use crate::random::Random;
+use crate::vectors::{self, Vector};
+use crate::Outcome;
 
 /// The calls of the month so far, with their charges.
 const HELD: [(u32, u32); 11] = [
@@ -81,6 +88,38 @@ pub fn hotel_of_forty() -> Job {
         operations,
         turns: Vec::new(),
     }
+}
+
+/// The jobs of the stored vectors and of the examples that are run, with their names.
+pub fn stored() -> Vec<(String, Job)> {
+    let is_run = |vector: &Vector| matches!(vector.wanted, Outcome::Done { .. });
+    let stored = vectors::all().into_iter().filter(is_run);
+    let stored = stored.map(|vector| (vector.name, Job::from_bytes(&vector.job)));
+    let accepted = |example: &Example| check(&example.bytes()).is_none();
+    let told = examples().into_iter().filter(accepted);
+    let told = told.map(|example| (example.name.to_string(), example.job));
+    stored.chain(told).collect()
+}
+
+/// Jobs of every depth in which some list makes the operations use as many turns as
+/// they can.
+pub fn of_the_most_turns(capacity: usize) -> Vec<Job> {
+    let of_depth = |depth| {
+        let wide =
+            move |retries| [Home::Old, Home::New].map(|home| wide(depth, capacity, retries, home));
+        iter::once(misled(depth, capacity, 2)).chain((0..depth).flat_map(wide))
+    };
+    DEPTHS.into_iter().flat_map(of_depth).collect()
+}
+
+/// Random jobs that contend for one page, of every depth and every capacity.
+pub fn contended_of_each(seed: u64, name: &str) -> Vec<Job> {
+    let of = |depth, capacity| {
+        let random = &mut Random::new(seed, &format!("{name} {depth} {capacity}"));
+        contended(random, depth, capacity)
+    };
+    let of_depth = |depth| (1..=MAX_CAPACITY).map(move |capacity| of(depth, capacity));
+    DEPTHS.into_iter().flat_map(of_depth).collect()
 }
 
 /// A random job without turns whose operations all go for one page, or for the pages

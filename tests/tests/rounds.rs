@@ -6,18 +6,15 @@
 
 use chargefile_tests::bounds::{Held, DEPTHS};
 use chargefile_tests::check;
-use chargefile_tests::examples::examples;
 use chargefile_tests::job::{Job, MAX_CAPACITY, MAX_TURNS};
 use chargefile_tests::make;
-use chargefile_tests::make_most_turns::{misled, to_the_longest, wide, Home};
-use chargefile_tests::make_rounds::contended;
+use chargefile_tests::make_most_turns::to_the_longest;
+use chargefile_tests::make_rounds::{contended_of_each, of_the_most_turns, stored};
 use chargefile_tests::random::Random;
 use chargefile_tests::rounds::{deal_rounds, enough, most_used, rounds_in, Dealer, Dealt, DEALERS};
 use chargefile_tests::run::Run;
 use chargefile_tests::seeds::{each_seed, few_seeds};
 use chargefile_tests::tally::all_seen;
-use chargefile_tests::vectors;
-use chargefile_tests::Outcome;
 
 /// Random jobs of each depth and capacity.
 const CONTENDED: u64 = 40;
@@ -68,13 +65,7 @@ fn finishes_with_all(job: &Job, met: &mut Met) {
 #[test]
 fn stored_jobs() {
     let mut met = Met::default();
-    let stored = vectors::all().into_iter();
-    let stored = stored.filter(|vector| matches!(vector.wanted, Outcome::Done { .. }));
-    let stored = stored.map(|vector| (vector.name, Job::from_bytes(&vector.job)));
-    let told = examples().into_iter();
-    let told = told.filter(|example| check(&example.bytes()).is_none());
-    let told = told.map(|example| (example.name.to_string(), example.job));
-    for (name, job) in stored.chain(told) {
+    for (name, job) in stored() {
         println!("{name}");
         finishes_with_all(&job, &mut met);
     }
@@ -87,13 +78,9 @@ fn stored_jobs() {
 fn contended_jobs() {
     let mut met = Met::default();
     let whole = few_seeds(CONTENDED, |seed| {
-        for depth in DEPTHS {
-            for capacity in 1..=MAX_CAPACITY {
-                let random = &mut Random::new(seed, &format!("rounds {depth} {capacity}"));
-                let job = contended(random, depth, capacity);
-                assert_eq!(check(&job.to_bytes()), None);
-                finishes_with_all(&job, &mut met);
-            }
+        for job in contended_of_each(seed, "rounds") {
+            assert_eq!(check(&job.to_bytes()), None);
+            finishes_with_all(&job, &mut met);
         }
     });
     if whole {
@@ -125,13 +112,9 @@ fn random_jobs() {
 #[test]
 fn jobs_of_the_most_turns() {
     let mut met = Met::default();
-    for depth in DEPTHS {
-        for capacity in [1, 3, MAX_CAPACITY] {
-            finishes_with_all(&misled(depth, capacity, 2), &mut met);
-            for retries in 0..depth {
-                finishes_with_all(&wide(depth, capacity, retries, Home::Old), &mut met);
-                finishes_with_all(&wide(depth, capacity, retries, Home::New), &mut met);
-            }
+    for capacity in [1, 3, MAX_CAPACITY] {
+        for job in of_the_most_turns(capacity) {
+            finishes_with_all(&job, &mut met);
         }
     }
     met.held.all_met(&DEPTHS, 10);

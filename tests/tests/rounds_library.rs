@@ -7,20 +7,19 @@ mod counted;
 mod linked;
 
 use chargefile_tests::bounds::{Held, DEPTHS};
-use chargefile_tests::examples::examples;
 use chargefile_tests::job::{Job, Kind, MAX_CAPACITY, MAX_TURNS};
 use chargefile_tests::little_endian::{four_at, two_at};
 use chargefile_tests::make;
-use chargefile_tests::make_most_turns::{misled, wide, Home};
-use chargefile_tests::make_rounds::{contended, contended_by, hotel_of_forty};
+use chargefile_tests::make_most_turns::misled;
+use chargefile_tests::make_rounds::{
+    contended_by, contended_of_each, hotel_of_forty, of_the_most_turns, stored,
+};
 use chargefile_tests::random::Random;
 use chargefile_tests::result::answer_bytes;
 use chargefile_tests::rounds::{deal_rounds, enough, rounds_in, Dealt, DEALERS};
 use chargefile_tests::run::Run;
 use chargefile_tests::seeds::few_seeds;
 use chargefile_tests::tally::all_seen;
-use chargefile_tests::vectors;
-use chargefile_tests::{check, Outcome};
 use counted::{by_both, counts};
 
 /// Random jobs of each depth and capacity.
@@ -119,18 +118,9 @@ fn the_library_finishes_all(job: &Job, met: &mut Met) {
 #[test]
 fn stored_jobs() {
     let mut met = Met::default();
-    let is_run = |outcome: &Outcome| matches!(outcome, Outcome::Done { .. });
-    for vector in vectors::all() {
-        if is_run(&vector.wanted) {
-            println!("{}", vector.name);
-            the_library_finishes_all(&Job::from_bytes(&vector.job), &mut met);
-        }
-    }
-    for example in examples() {
-        if check(&example.bytes()).is_none() {
-            println!("{}", example.name);
-            the_library_finishes_all(&example.job, &mut met);
-        }
+    for (name, job) in stored() {
+        println!("{name}");
+        the_library_finishes_all(&job, &mut met);
     }
     met.held.all_met(&[0, 1, 2, 3, 4, 5, 7, 8], 10);
     all_seen([
@@ -146,11 +136,8 @@ fn stored_jobs() {
 fn contended_jobs() {
     let mut met = Met::default();
     let whole = few_seeds(CONTENDED, |seed| {
-        for depth in DEPTHS {
-            for capacity in 1..=MAX_CAPACITY {
-                let random = &mut Random::new(seed, &format!("library {depth} {capacity}"));
-                the_library_finishes_all(&contended(random, depth, capacity), &mut met);
-            }
+        for job in contended_of_each(seed, "library") {
+            the_library_finishes_all(&job, &mut met);
         }
     });
     if whole {
@@ -176,12 +163,8 @@ fn random_jobs() {
 #[test]
 fn jobs_of_the_most_turns_and_the_hotel() {
     let mut met = Met::default();
-    for depth in DEPTHS {
-        the_library_finishes_all(&misled(depth, 2, 2), &mut met);
-        for retries in 0..depth {
-            the_library_finishes_all(&wide(depth, 2, retries, Home::Old), &mut met);
-            the_library_finishes_all(&wide(depth, 2, retries, Home::New), &mut met);
-        }
+    for job in of_the_most_turns(2) {
+        the_library_finishes_all(&job, &mut met);
     }
     met.held.all_met(&DEPTHS, 10);
     let lists = met.lists;
@@ -221,11 +204,10 @@ fn as_many_rounds_as_are_enough() {
         most.push((1..).take_while(carried).count());
     }
     assert_eq!(most, [48, 36, 30, 25, 20, 16, 13, 10, 7]);
-    let stored = vectors::all().into_iter();
-    let stored = stored.filter(|vector| matches!(vector.wanted, Outcome::Done { .. }));
-    let carried =
-        stored.filter_map(|vector| every_operation_in_turn(&Job::from_bytes(&vector.job)));
-    let carried = carried.count();
+    let carried = stored()
+        .iter()
+        .filter_map(|(_, job)| every_operation_in_turn(job))
+        .count();
     assert!(carried > 100, "{carried} stored jobs");
 }
 

@@ -54,7 +54,7 @@ allTurns g (op ∷ ops) = sharpTurns g (op .kind) + allTurns g ops
 abbrev pub sharpRounds : Job → ℕ
 sharpRounds j = allTurns (j .file .g) (j .ops)
 
--- every operation is finished
+-- every operation is finished (and what is read where there is none, `State.gone`, is so too)
 abbrev pub AllDone : State → Type 0
 AllDone s = (i : ℕ) → stageOf s i ≡ Done
 
@@ -80,7 +80,7 @@ pub record GetsDone (j : Job) (r : Result) : Type 0 where
       → stageOf (under j ts) i ≡ Done
   -- whoever is finished stays so, whatever turns follow: where fewer rounds have finished them all, more do no harm
   pub stay : (ts us : List ℕ) (i : ℕ) → stageOf (under j ts) i ≡ Done → stageOf (under j (ts ++ us)) i ≡ Done
-  -- every operation in turn is a round, from every state on: a list of m turns for each round will do
+  -- such lists are there for every number of rounds: every operation in turn, so m turns for each round
   pub inTurns : (k : ℕ) → Rounds j k (inTurn (length (j .ops)) k)
   -- so a job whose own list is made of that many rounds has every answer, and a charge file
   pub answers : (k : ℕ) → mostRounds j ≤ k → Rounds j k (j .turns) → Complete j r
