@@ -6,12 +6,12 @@ use mathlib.Core.Path.{_≡_, refl, sym, ap, subst}
 use mathlib.Core.List.{List, [], _∷_}
 use mathlib.Core.Bool.{true, false≢true}
 use native.Mathlib.Nat.{le-refl}
-use lib.ListN.{take, drop}
+use lib.ListN.{length}
 use lib.Dec.{eqb}
 use borrow.Author.Tests.{eqb-true, eq-eqb, not-false}
 use Rattle.spec.specs.Job.{Job}
 use Rattle.spec.specs.Result.{Result}
-use Rattle.spec.specs.Rounds.{Rounds, mostRounds, Complete, GetsDone}
+use Rattle.spec.specs.Rounds.{Rounds, below, mostRounds, sharpRounds, Complete, GetsDone}
 use Rattle.laws.specs.Tools.{and-left, and-right}
 use Rattle.laws.specs.Weighed.{same, isDone}
 use Rattle.laws.specs.Refutes.{is-not, is-or, is-and, eqb-same, every-true, same-true, says-done, says-search}
@@ -43,7 +43,7 @@ module _ (j : Job) (r : Result) (e : GetsDone j r) where
   unfolding stay doneUnder isDone
   stay-true =
       every-true _ _
-      (λ t l. every-true _ _ (λ i k. is-or (λ d. ap isDone (e .stay (take t (j .turns)) (drop t (j .turns)) i (says-done _ (not-false _ d))))))
+      (λ i l. is-or (λ d. ap isDone (e .stay (turnsOf j (sharpRounds j)) (below (length (j .ops))) i (says-done _ (not-false _ d)))))
 
   lacks-nothing : same eqb (j .turns) (turnsOf j (mostRounds j)) ≡ true → Complete j r
   lacks-nothing t = e .answers (mostRounds j) (le-refl _) (subst (Rounds j (mostRounds j)) (sym (says-same (j .turns) _ t)) (e .inTurns (mostRounds j)))

@@ -3,12 +3,12 @@
 -- machines that keep a lock, under which rounds no longer finish everybody.
 -- That a test that fails refutes the claim is proved in RefutesRounds. (`inTurns` has no test: it holds whatever the machine is, and all tests rest
 -- on it.)
-use Prim.Native.Nat.{ℕ, suc, _*_}
+use Prim.Native.Nat.{ℕ, _*_}
 use mathlib.Core.Path.{refl}
 use mathlib.Core.List.{List, [], _∷_, _++_}
 use mathlib.Core.Bool.{Bool, true, false, not, _&&_, _||_}
 use mathlib.Core.Option.{Option, none, some}
-use lib.ListN.{length, take, drop}
+use lib.ListN.{length}
 use lib.Dec.{eqb}
 use Rattle.spec.specs.declared.Rec.{Rec}
 use Rattle.spec.specs.declared.Op.{Op}
@@ -45,12 +45,11 @@ unfoldable pub searches : Job → Result → Bool
 searches j r =
     every (length (j .ops)) (λ i. not (isSearch (kindAt j i)) || doneUnder j (turnsOf j (mostTurns (j .file .g) Search)) i)
 
--- does whoever is finished after t turns of the job's own list stay so to its end?
+-- does whoever is finished then stay so for one round more?
 unfoldable pub stay : Job → Result → Bool
 stay j r =
-    every (suc (length (j .turns)))
-    (λ t.
-    every (length (j .ops)) (λ i. not (doneUnder j (take t (j .turns)) i) || doneUnder j (take t (j .turns) ++ drop t (j .turns)) i))
+    let ts : List ℕ = turnsOf j (sharpRounds j) in
+    every (length (j .ops)) (λ i. not (doneUnder j ts i) || doneUnder j (ts ++ below (length (j .ops))) i)
 
 -- has a job whose own list is that many rounds every answer? Is none under way, and is there a charge file, the file after the last turn?
 unfoldable pub sameBytes : Option (List ℕ) → List ℕ → Bool
