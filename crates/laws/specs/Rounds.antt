@@ -1,5 +1,5 @@
 -- Everyone gets done, for every accepted job given as bytes and what is read from the bytes of its result.
-use Prim.Native.Nat.{ℕ, suc, _≤_}
+use Prim.Native.Nat.{ℕ, suc}
 use mathlib.Core.Path.{_≡_, refl, ap, _∙_}
 use mathlib.Core.List.{List, [], _∷_}
 use lib.ListN.{getD}
@@ -11,7 +11,7 @@ use Rattle.spec.specs.Run.{rowOf, stageOf, run}
 use Rattle.spec.specs.Result.{underWay, countUnder, resultOf, result}
 use Rattle.spec.specs.Proper.{FileOk}
 use Rattle.spec.specs.MostTurns.{under}
-use Rattle.spec.specs.Rounds.{Rounds, mostRounds, AllDone, Complete, GetsDone, EveryoneDone}
+use Rattle.spec.specs.Rounds.{AllDone, Complete, GetsDone, EveryoneDone}
 use Rattle.laws.specs.Tools.{if-false}
 use Rattle.laws.specs.Codec.Accepted.{accepted-file}
 use Rattle.laws.specs.Turns.Theorem.{all-told}

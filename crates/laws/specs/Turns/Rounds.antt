@@ -1,10 +1,10 @@
 -- Everyone gets done: in each round that begins with some operation unfinished somebody uses a turn, and all together cannot use more turns than
 -- each of them can; so that many rounds finish them all. A search uses a turn in every round until it is finished.
 use Prim.Native.Nat.{ℕ, zero, suc, _+_, _*_, _<_, _≤_}
-use mathlib.Core.Path.{_≡_, refl, sym, ap, _∙_}
+use mathlib.Core.Path.{_≡_, refl, ap, _∙_}
 use mathlib.Core.Logic.{by-cases}
 use mathlib.Core.List.{List, [], _∷_, _++_}
-use mathlib.Core.Bool.{Bool, false, true≢false, not-eq-not}
+use mathlib.Core.Bool.{Bool, false, not-eq-not}
 use native.Mathlib.Omega.{arith}
 use native.Mathlib.Nat.{le-refl}
 use native.Mathlib.Decide.{ℕ-discrete}
@@ -26,7 +26,7 @@ use Rattle.laws.specs.Turns.Rows.{rowOf-other, rowOf-same, stageOf-other
 use Rattle.laws.specs.Turns.Progress.{progress}
 use Rattle.laws.specs.Turns.States.{steps-append}
 use Rattle.laws.specs.Turns.Whole.{Whole, end-whole}
-use Rattle.laws.specs.Turns.Theorem.{search-moves, done-idle}
+use Rattle.laws.specs.Turns.Theorem.{search-moves, moves-unfinished}
 use Rattle.laws.specs.Turns.SpentTurns.{sharp-turns, most-turns, sharp-longest}
 
 -- the turns that all operations together have used
@@ -60,10 +60,6 @@ all-longest : (g : ℕ) (ops : List Op) → allTurns g ops ≤ length ops * long
 unfolding allTurns
 all-longest g [] = omega arith
 all-longest g (op ∷ ops) = omega (arith, sharp-longest g (op .kind), all-longest g ops)
-
--- an operation that is not idle is unfinished
-moves-unfinished : (l : List Bool) (st : Stage) → idle l st ≡ false → st ≡ Done → ⊥
-moves-unfinished l st i e = true≢false (sym (done-idle l st e) ∙ i)
 
 -- a stage that is not other than finished is finished
 done-or : (st : Stage) → ((st ≡ Done → ⊥) → ⊥) → st ≡ Done

@@ -4,7 +4,7 @@ use Prim.Native.Nat.{ℕ, suc, _<_, _≤_}
 use mathlib.Core.Path.{_≡_, refl, sym, ap, _∙_, subst}
 use mathlib.Core.Logic.{_⊎_, ⊎-elim, by-cases}
 use mathlib.Core.List.{List, map}
-use mathlib.Core.Bool.{Bool, true, true≢false, false≢true}
+use mathlib.Core.Bool.{Bool, true, false, true≢false, false≢true}
 use mathlib.Core.Option.{none, some}
 use native.Mathlib.Omega.{arith}
 use native.Mathlib.Decide.{ℕ-discrete, decLt}
@@ -50,9 +50,10 @@ search-moves l f op c (Held x t) h k n e = false≢true e
 search-moves l f op c (Split x b m q) h k n e = false≢true e
 search-moves l f op c Done h k n e = n refl
 
-pub done-idle : (l : List Bool) (st : Stage) → st ≡ Done → idle l st ≡ true
+-- an operation that is not idle is unfinished
+pub moves-unfinished : (l : List Bool) (st : Stage) → idle l st ≡ false → st ≡ Done → ⊥
 unfolding idle
-done-idle l st e = ap (idle l) e
+moves-unfinished l st i e = true≢false (sym (ap (idle l) e) ∙ i)
 
 -- a finished operation has a code
 done-code : {j : Job} {s : State} → Whole j s → (i : ℕ) → i < length (s .rows) → stageOf s i ≡ Done → rowOf s i .code ≡ notYet → ⊥
@@ -153,7 +154,7 @@ module _ (j : Job) (ok : FileOk (j .file)) where
       let p = progress (stateAt j t) (then .good .locks) i n in (
         p .0,
         omega (arith, moves-row (stateAt j t) (p .0) (p .1), then .rows),
-        λ d. true≢false (sym (done-idle (stateAt j t .locks) _ d) ∙ p .1),
+        moves-unfinished (stateAt j t .locks) _ (p .1),
         λ w. true≢false (sym (w .idles) ∙ p .1),
       )
 
