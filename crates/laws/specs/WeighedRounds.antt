@@ -67,7 +67,7 @@ answers j r =
 abbrev rounds : List Rec → List Op → Job
 rounds rs ops = onePage rs ops (inTurn (length ops) (length ops * longest 1))
 
--- a page with room, which two wait for while another holds it; a search does not wait
+-- a page with room, which the delete waits for while the insert holds it; the search does not wait
 abbrev shared : Job
 shared = rounds (call 2 50 ∷ []) (op Insert 4 90 ∷ op Delete 2 0 ∷ op Search 4 0 ∷ [])
 
