@@ -61,7 +61,7 @@ unfolding every
 every-true zero f h = refl
 every-true (suc n) f h = is-and (h zero (omega arith)) (every-true n (λ i. f (suc i)) (λ i l. h (suc i) (omega arith)))
 
-every-at : (n : ℕ) (f : ℕ → Bool) → every n f ≡ true → (i : ℕ) → i < n → f i ≡ true
+pub every-at : (n : ℕ) (f : ℕ → Bool) → every n f ≡ true → (i : ℕ) → i < n → f i ≡ true
 unfolding every
 every-at zero f e i l = absurd (omega arith)
 every-at (suc n) f e zero l = and-left (f zero) _ e

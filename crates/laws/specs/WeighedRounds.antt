@@ -1,8 +1,8 @@
 -- The claim on rounds weighed, as Weighed does for the others: the fields of `GetsDone` as tests that compute, tried with every operation in turn, and
 -- jobs on which every test passes. For each of these fields there is a changed definition under which its test fails (tests/edits): among them
 -- machines that keep a lock, under which rounds no longer finish everybody.
--- That a test that fails refutes the claim is proved in RefutesRounds. (`inTurns` has no test: it holds whatever the machine is, and all tests rest
--- on it.)
+-- That a test that fails refutes the claim is proved in RefutesRounds. (`fewer` and `inTurns` have no test: they hold whatever the machine is, and the
+-- tests rest on the second.)
 use Prim.Native.Nat.{ℕ, _*_}
 use mathlib.Core.Path.{refl}
 use mathlib.Core.List.{List, [], _∷_, _++_}
@@ -51,17 +51,23 @@ stay j r =
     let ts : List ℕ = turnsOf j (sharpRounds j) in
     every (length (j .ops)) (λ i. not (doneUnder j ts i) || doneUnder j (ts ++ below (length (j .ops))) i)
 
--- has a job whose own list is that many rounds every answer? Is none under way, and is there a charge file, the file after the last turn?
+-- has the result every answer? Is none under way, and is there a charge file, the file after the last turn?
 unfoldable pub sameBytes : Option (List ℕ) → List ℕ → Bool
 sameBytes none c = false
 sameBytes (some b) c = same eqb b c
 
-unfoldable pub answers : Job → Result → Bool
-answers j r =
-    not (same eqb (j .turns) (turnsOf j (mostRounds j)))
-    || (every (length (j .ops)) (λ i. not (eqb (answerAt r i .code) notYet))
+unfoldable pub lacksNothing : Job → Result → Bool
+lacksNothing j r =
+    every (length (j .ops)) (λ i. not (eqb (answerAt r i .code) notYet))
     && eqb (r .unended) 0
-    && sameBytes (r .file) (encodeFile (run j .file)))
+    && sameBytes (r .file) (encodeFile (run j .file))
+
+-- is it so of a job whose own list finishes every operation? Of one whose own list is as many rounds as are asked?
+unfoldable pub complete : Job → Result → Bool
+complete j r = not (every (length (j .ops)) (λ i. isDone (stageOf (run j) i))) || lacksNothing j r
+
+unfoldable pub answers : Job → Result → Bool
+answers j r = not (same eqb (j .turns) (turnsOf j (mostRounds j))) || lacksNothing j r
 
 -- Jobs, each with as many rounds as are asked for its own list.
 abbrev rounds : List Rec → List Op → Job
@@ -83,7 +89,7 @@ abbrev jobs : List Job
 jobs = shared ∷ letGo ∷ alone ∷ rounds [] [] ∷ []
 
 unfoldable asked : Unit {0}
-unfolding opened tested under longest mostTurns sharpTurns below inTurn allTurns doneUnder sameBytes
+unfolding opened tested under longest mostTurns sharpTurns below inTurn allTurns doneUnder sameBytes lacksNothing
 asked = tt
 
 finish-passes : PassesOn jobs finish
@@ -101,6 +107,10 @@ searches-passes = refl
 stay-passes : PassesOn jobs stay
 unfolding asked stay
 stay-passes = refl
+
+complete-passes : PassesOn jobs complete
+unfolding asked complete
+complete-passes = refl
 
 answers-passes : PassesOn jobs answers
 unfolding asked answers

@@ -34,6 +34,10 @@ use Rattle.spec.specs.Proper.{PageNo, CallsRise}
 unfoldable pub stateAt : Job → ℕ → State
 stateAt j t = steps (j .ops) (start (j .file) (length (j .ops))) (take t (j .turns))
 
+-- "one not begun is unfinished", and so is every other that has not had its last turn
+abbrev pub Unfinished : State → ℕ → Type 0
+Unfinished s i = stageOf s i ≡ Done → ⊥
+
 -- "An operation's first turn is the first that names it"
 pub record FirstTurn (j : Job) (i t : ℕ) : Type 0 where
   pub within : t < length (j .turns)
@@ -43,12 +47,12 @@ pub record FirstTurn (j : Job) (i t : ℕ) : Type 0 where
 -- "it ended on the turn that finished it"
 pub record Ended (j : Job) (i t : ℕ) : Type 0 where
   pub within : t < length (j .turns)
-  pub before : stageOf (stateAt j t) i ≡ Done → ⊥
+  pub before : Unfinished (stateAt j t) i
   pub after : stageOf (stateAt j (suc t)) i ≡ Done
 
 -- "An unfinished operation can use a turn if the next turn, given to it, would not wait": that it would wait
 pub record Waits (s : State) (i : ℕ) : Type 0 where
-  pub unfinished : stageOf s i ≡ Done → ⊥
+  pub unfinished : Unfinished s i
   pub idles : idle (s .locks) (stageOf s i) ≡ true
 
 -- how many lines of a log name operation i
@@ -125,8 +129,8 @@ pub record Explained (j : Job) (r : Result) : Type 0 where
       : (t i : ℕ)
       → t ≤ length (j .turns)
       → i < length (j .ops)
-      → (stageOf (stateAt j t) i ≡ Done → ⊥)
-      → (k : ℕ) × (k < length (j .ops)) × (stageOf (stateAt j t) k ≡ Done → ⊥) × (Waits (stateAt j t) k → ⊥)
+      → Unfinished (stateAt j t) i
+      → (k : ℕ) × (k < length (j .ops)) × Unfinished (stateAt j t) k × (Waits (stateAt j t) k → ⊥)
   -- a finished operation has an answer
   pub finished : (i : ℕ) → i < length (j .ops) → stageOf (run j) i ≡ Done → answerAt r i .code ≡ notYet → ⊥
 

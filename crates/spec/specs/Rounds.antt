@@ -17,12 +17,8 @@ use Rattle.spec.specs.State.{State}
 use Rattle.spec.specs.Run.{stageOf, run}
 use Rattle.spec.specs.Result.{Result, readResult}
 use Rattle.spec.specs.Outcome.{resultBytes}
-use Rattle.spec.specs.Claims.{answerAt, Accepted}
+use Rattle.spec.specs.Claims.{Unfinished, answerAt, Accepted}
 use Rattle.spec.specs.MostTurns.{longest, mostTurns, sharpTurns, under, kindAt}
-
--- "one not begun is unfinished"
-abbrev pub Unfinished : State → ℕ → Type 0
-Unfinished s i = stageOf s i ≡ Done → ⊥
 
 -- "Let a round be a list in which every operation unfinished at its start has at least one turn": of the job j, from the state s on
 abbrev pub Round : Job → State → List ℕ → Type 0
@@ -54,9 +50,9 @@ allTurns g (op ∷ ops) = sharpTurns g (op .kind) + allTurns g ops
 abbrev pub sharpRounds : Job → ℕ
 sharpRounds j = allTurns (j .file .g) (j .ops)
 
--- every operation is finished (and what is read where there is none, `State.gone`, is so too)
-abbrev pub AllDone : State → Type 0
-AllDone s = (i : ℕ) → stageOf s i ≡ Done
+-- every operation of the job j is finished
+abbrev pub AllDone : Job → State → Type 0
+AllDone j s = (i : ℕ) → i < length (j .ops) → stageOf s i ≡ Done
 
 -- The result r of the job j lacks nothing: every operation has an answer, none is under way, and there is a charge file, the file after the last
 -- turn.
@@ -68,9 +64,9 @@ pub record Complete (j : Job) (r : Result) : Type 0 where
 -- What rounds come to, of the job j under any list, "also one longer than a job can carry"; and of its result r.
 pub record GetsDone (j : Job) (r : Result) : Type 0 where
   -- "m × (2^g + 4g + 6) rounds finish them all"
-  pub finish : (k : ℕ) (ts : List ℕ) → mostRounds j ≤ k → Rounds j k ts → AllDone (under j ts)
+  pub finish : (k : ℕ) (ts : List ℕ) → mostRounds j ≤ k → Rounds j k ts → AllDone j (under j ts)
   -- the same, sharper
-  pub sooner : (k : ℕ) (ts : List ℕ) → sharpRounds j ≤ k → Rounds j k ts → AllDone (under j ts)
+  pub sooner : (k : ℕ) (ts : List ℕ) → sharpRounds j ≤ k → Rounds j k ts → AllDone j (under j ts)
   -- a search, which never waits, is finished when there were as many rounds as it can use turns
   pub searches
       : (k : ℕ) (ts : List ℕ) (i : ℕ)
@@ -78,13 +74,17 @@ pub record GetsDone (j : Job) (r : Result) : Type 0 where
       → mostTurns (j .file .g) Search ≤ k
       → Rounds j k ts
       → stageOf (under j ts) i ≡ Done
-  -- whoever is finished stays so, whatever turns follow: where fewer rounds have finished them all, more do no harm
+  -- whoever is finished stays so, whatever turns follow
   pub stay : (ts us : List ℕ) (i : ℕ) → stageOf (under j ts) i ≡ Done → stageOf (under j (ts ++ us)) i ≡ Done
+  -- and need not be named: where fewer rounds have finished them all, any list is one more
+  pub fewer : (k : ℕ) (ts us : List ℕ) → AllDone j (under j ts) → Rounds j k ts → Rounds j (suc k) (ts ++ us)
   -- such lists are there for every number of rounds: every operation in turn, so m turns for each round
   pub inTurns : (k : ℕ) → Rounds j k (inTurn (length (j .ops)) k)
-  -- so a job whose own list is made of that many rounds has every answer, and a charge file
+  -- a job whose own list finishes every operation, in however many rounds, has every answer, and a charge file
+  pub complete : AllDone j (run j) → Complete j r
+  -- so one whose own list is made of that many rounds has them
   pub answers : (k : ℕ) → mostRounds j ≤ k → Rounds j k (j .turns) → Complete j r
 
 -- EVERYONE GETS DONE: so it is of every accepted job, given as its bytes, and what is read from the bytes of its result
-abbrev pub EveryoneDone : Type 0
-EveryoneDone = (b post : List ℕ) → AreBytes b → Accepted b → GetsDone (jobOf b) (readResult (resultBytes b ++ post))
+abbrev pub EveryoneGetsDone : Type 0
+EveryoneGetsDone = (b post : List ℕ) → AreBytes b → Accepted b → GetsDone (jobOf b) (readResult (resultBytes b ++ post))

@@ -4,6 +4,6 @@ pub mod Again
 pub mod Calls
 pub mod Lent
 pub mod Shapes
-pub mod Rounds
+pub mod Passes
 pub mod Turning
 pub mod Telling

@@ -1,4 +1,4 @@
--- The directory and the page table, written front to back: one round of each loop, and the end.
+-- The directory and the page table, written front to back: one pass of each loop, and the end.
 use mathlib.Core.Path.{_≡_, sym, ap, _∙_}
 use mathlib.Core.List.{List, _++_, map}
 use Prim.Native.Nat.{ℕ, zero, suc, _+_, _-_, _*_, _^_, _≤_, _<_}

@@ -20,7 +20,8 @@ use Rattle.spec.specs.Turn.{turn}
 use Rattle.spec.specs.Run.{rowAfter, rowOf, stageOf, idle, tick, act, step, steps, run}
 use Rattle.spec.specs.Proper.{FileOk}
 use Rattle.spec.specs.MostTurns.{longest, mostTurns, sharpTurns, under, kindAt}
-use Rattle.spec.specs.Rounds.{Unfinished, Round, Rounds, noRound, oneMore, below, inTurn, mostRounds, allTurns, sharpRounds, AllDone}
+use Rattle.spec.specs.Claims.{Unfinished}
+use Rattle.spec.specs.Rounds.{Round, Rounds, noRound, oneMore, below, inTurn, mostRounds, allTurns, sharpRounds, AllDone}
 use Rattle.laws.specs.Tools.{if-false, has-left, has-right}
 use Rattle.laws.specs.Turns.Rows.{rowOf-other, rowOf-same, stageOf-other, row-after, stage-row, moves-row, step-case, steps-keep}
 use Rattle.laws.specs.Turns.Progress.{progress}
@@ -172,6 +173,10 @@ module _ (j : Job) where
   in-turn zero = noRound
   in-turn (suc k) = oneMore (in-turn k) (every-round _)
 
+  -- where all are finished any list is a round
+  pub round-more : (k : ℕ) (ts us : List ℕ) → AllDone j (under j ts) → Rounds j k ts → Rounds j (suc k) (ts ++ us)
+  round-more k ts us done r = oneMore r (λ i l u. absurd (u (done i l)))
+
   -- what gets more in every round that begins with operation i unfinished
   abbrev GetsMore : ℕ → (State → ℕ) → Type 0
   GetsMore i much =
@@ -208,11 +213,11 @@ module _ (j : Job) (ok : FileOk (j .file)) where
   all-used ts = total-within (j .file .g) (under j ts .rows) (j .ops) (under-whole ts .rows) (sharp-turns j ok ts)
 
   -- AS MANY ROUNDS AS THE OPERATIONS CAN USE TURNS FINISH THEM ALL
-  pub sharp-rounds : (k : ℕ) (ts : List ℕ) → sharpRounds j ≤ k → Rounds j k ts → AllDone (under j ts)
-  sharp-rounds k ts l r i = rounds-end j i (sharpRounds j) (λ s. total (s .rows)) (one-used i) all-used k ts l r
+  pub sharp-rounds : (k : ℕ) (ts : List ℕ) → sharpRounds j ≤ k → Rounds j k ts → AllDone j (under j ts)
+  sharp-rounds k ts l r i w = rounds-end j i (sharpRounds j) (λ s. total (s .rows)) (one-used i) all-used k ts l r
 
   -- m × (2^g + 4g + 6) ROUNDS FINISH THEM ALL
-  pub most-rounds : (k : ℕ) (ts : List ℕ) → mostRounds j ≤ k → Rounds j k ts → AllDone (under j ts)
+  pub most-rounds : (k : ℕ) (ts : List ℕ) → mostRounds j ≤ k → Rounds j k ts → AllDone j (under j ts)
   most-rounds k ts l = sharp-rounds k ts (omega (arith, all-longest (j .file .g) (j .ops)))
 
   -- a search uses a turn in every round

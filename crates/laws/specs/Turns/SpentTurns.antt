@@ -264,6 +264,9 @@ most-longest g Search = omega arith
 most-longest g Insert = le-refl (longest g)
 most-longest g Delete = le-refl (longest g)
 
+pub sharp-longest : (g : ℕ) (k : Kind) → sharpTurns g k ≤ longest g
+sharp-longest g k = omega (arith, sharp-most g k, most-longest g k)
+
 longest-used : (g : ℕ) → g ≤ maxDepth → longest g ≤ mostUsed
 unfolding longest
 longest-used g l = let p = pow-mono {i = g} {j = maxDepth} l in omega arith
@@ -271,9 +274,6 @@ longest-used g l = let p = pow-mono {i = g} {j = maxDepth} l in omega arith
 pub narrow-turns : (j : Job) → FileOk (j .file) → (ts : List ℕ) (i : ℕ) → usedBy j ts i ≤ mostUsed
 narrow-turns j ok ts i =
     omega (arith, most-turns j ok ts i, most-longest (j .file .g) (kindAt j i), longest-used (j .file .g) (ok .fit .depth))
-
-pub sharp-longest : (g : ℕ) (k : Kind) → sharpTurns g k ≤ longest g
-sharp-longest g k = omega (arith, sharp-most g k, most-longest g k)
 
 -- so it is before turn t of a job's own list, and at its end
 pub used-at : (j : Job) → FileOk (j .file) → (i t : ℕ) → rowOf (stateAt j t) i .used ≤ mostUsed

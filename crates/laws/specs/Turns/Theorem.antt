@@ -166,8 +166,9 @@ module _ (j : Job) (ok : FileOk (j .file)) where
   unfolding fed answerAt
   all-refused p l c = refused-at (j .ops) (result j .answers) (result j .log) (contents (j .file)) p (replayed j ok .0) l c
 
-  pub all-told : (i : ℕ) → i < length (j .ops) → stageOf (run j) i ≡ Done → answerAt (result j) i .code ≡ notYet → ⊥
-  all-told i l d z = done-code w i (omega (arith, w .rows)) d (sym (code-at i) ∙ z)
+  -- a finished operation is answered
+  pub finished-answered : (i : ℕ) → i < length (j .ops) → stageOf (run j) i ≡ Done → answerAt (result j) i .code ≡ notYet → ⊥
+  finished-answered i l d z = done-code w i (omega (arith, w .rows)) d (sym (code-at i) ∙ z)
 
   pub explained : ((b : List ℕ) → result j .file ≡ some b → IsFile b (run j .file)) → Explained j (result j)
   explained charged =
@@ -191,5 +192,5 @@ module _ (j : Job) (ok : FileOk (j .file)) where
         searches = λ t i l k v.
             search-moves _ _ _ _ _ (whole j ok t l .codes .code i (stage-row (stateAt j t) i (v .unfinished))) k (v .unfinished) (v .idles);
         progress = can-move;
-        finished = all-told;
+        finished = finished-answered;
       }

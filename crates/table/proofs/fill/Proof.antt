@@ -51,7 +51,7 @@ use Rattle.table.proofs.fill as fn′
 use Rattle.table.proofs.fill.Statement as stated
 use Rattle.table.proofs.fill.Code as code
 use Rattle.table.proofs.fill.Code.Mir as body
-use Rattle.table.proofs.Rounds.{next-fits}
+use Rattle.table.proofs.Passes.{next-fits}
 use borrow.Author.Count.{falls}
 
 abbrev stayed : Stays (fn′.ended .signature .params) (fn′.ended .kept)

@@ -1,5 +1,5 @@
 -- `table::tell_rows` meets its contract: a walk of its MIR, by hand: a loop, in it the read of a row of the shared slice, and a call of `tell` that the two buffers are lent to again and come back from (`Again.antt`'s `lends` and `backs`).
--- After k rounds the buffers and the count are `tellRows rows k` of those at entry. The shared slice is looked into once a round, and is shut again before the call. All that the proof knows of `tell` is that it meets its contract.
+-- After k passes the buffers and the count are `tellRows rows k` of those at entry. The shared slice is looked into once a pass, and is shut again before the call. All that the proof knows of `tell` is that it meets its contract.
 -- Assumes nothing.
 use mathlib.Core.Path.{_≡_, refl, sym, _∙_, ap, subst}
 use Prim.Native.Nat.{ℕ, _+_, _-_, _*_, _<_, _≤_, _^_, zero-le}
@@ -54,7 +54,7 @@ use Rattle.table.proofs.Again.{lends, backs}
 use Rattle.table.proofs.Calls.{sure, calls, passes-on}
 use Rattle.table.proofs.Lent.{word, bytes-mut, rows-shr, byte-ref, s, at, vs}
 use Rattle.table.proofs.Telling.{Same, lengths, under-small, none-told, one-more, told-is, below, answer-room, sum-fits, count-fits}
-use Rattle.table.proofs.Rounds.{word-fits, next-fits}
+use Rattle.table.proofs.Passes.{word-fits, next-fits}
 use Rattle.table.proofs.Rows.{val, rowSize, times-fits, typed, own-row, tests}
 use Rattle.table.proofs.tell_rows.Key.{name as #table·tell-rows}
 use Rattle.table.proofs.tell_rows as fn′
@@ -66,7 +66,7 @@ use borrow.Author.Count.{falls}
 abbrev stayed : Stays (fn′.ended .signature .params) (fn′.ended .kept)
 stayed = (stay-dropped (shrSliceOf (0 ∷ []) tt (plain (λ _. T.the-row))) yes, (stay-dropped (plain (λ _. usize)) yes, (stay-slice (1 ∷ []) tt (plain (λ _. u8)), (stay-slice (2 ∷ []) tt (plain (λ _. u8)), tt))))
 
--- the last statement of a round
+-- the last statement of a pass
 abbrev counts : Body
 counts = assign (place 6 []) (op2 (add unsigned) (copy (place 6 [])) (int w64 1))
 
@@ -84,7 +84,7 @@ module _ {M : Type 1} (𝓤 : URA M) (H : Heap 𝓤) (A : Atoms 𝓤) (W : Given
   abbrev n : ℕ
   n = length ys
 
-  -- what is passed, and the row that round k tells
+  -- what is passed, and the row that pass k tells
   abbrev u₀ : Told
   u₀ = told (x₁ .now) (x₂ .now) 0
 
@@ -138,7 +138,7 @@ module _ {M : Type 1} (𝓤 : URA M) (H : Heap 𝓤) (A : Atoms 𝓤) (W : Given
     Nearer-wf : WellFounded Nearer
     Nearer-wf = InvImage·wf (λ (t : Upto). m - t .0) (Nat·lt-wfRel .wf)
 
-    -- the context at u and the round k: what is had, and the locals, the last first
+    -- the context at u and the pass k: what is had, and the locals, the last first
     abbrev Here : Told → ℕ → List (Item 𝓤)
     Here u k = Has u (‵ (froom (sliceTy byte-ref) l₁₅ 0) ∷ ‵ (fdies (sliceTy byte-ref) l₁₅) ∷ ‵ (froom byte-ref l₁₄ 0) ∷ ‵ (fdies byte-ref l₁₄) ∷ ‵ (froom (sliceTy byte-ref) l₁₃ 0) ∷ ‵ (fdies (sliceTy byte-ref) l₁₃) ∷ ‵ (froom byte-ref l₁₂ 0) ∷ ‵ (fdies byte-ref l₁₂)
         ∷ ‵ (froom T′.mir l₁₁ 0) ∷ ‵ (fdies T′.mir l₁₁) ∷ ‵ (froom tyPtr l₁₀ 0) ∷ ‵ (fdies tyPtr l₁₀) ∷ ‵ (froom word l₉ 0) ∷ ‵ (fdies word l₉) ∷ ‵ (froom tyBool l₈ 0) ∷ ‵ (fdies tyBool l₈) ∷ ‵ (froom T′.mir l₇ 0) ∷ ‵ (fdies T′.mir l₇)
@@ -151,20 +151,20 @@ module _ {M : Type 1} (𝓤 : URA M) (H : Heap 𝓤) (A : Atoms 𝓤) (W : Given
     abbrev At : Upto → List (Item 𝓤)
     At t = Here (done-by t) (t .0)
 
-    -- a round's postcondition
+    -- a pass's postcondition
     abbrev Turned : Upto → Out → SProp 𝓤
     Turned t = afterTurn 𝓤 H (Below 𝓤 H A Nearer At t) (afterBlock 𝓤 H (afterSeq 𝓤 H (Wp 𝓤 H (𝓣 .C) (𝓣 .Λ) E body.t-4 (atReturn 𝓤 H E Post)) (atReturn 𝓤 H E Post)))
 
-    -- the end of a round: the count of rows goes up
+    -- the end of a pass: the count of rows goes up
     ups : (t : Upto) → t .0 < m → (u : Told) → u ≡ tellRows ys (t .0 + 1) u₀ → Sq W (Here u (t .0)) (runs (𝓣 .C) (𝓣 .Λ) E counts (anyQ (Turned t)))
     unfolding afterTurn
     ups t less u e = subst (λ (w : Told). Sq W (Here w (t .0)) (runs (𝓣 .C) (𝓣 .Λ) E counts (anyQ (Turned t)))) (sym e)
         (assigns-last ! (bin ! (load ! (from ! (stop !)) (look ! 24 refl)) (lit ! tt) (record { fits = next-fits (t .0) m less m-fits })) (from ! (stop !)) (store ! 24 refl (tt, record { fits = next-fits (t .0) m less m-fits })) $
         again ! Nearer At t (t .0 + 1, add-one-le less) (falls m (t .0) less))
 
-    rounds : (t : Upto) → Sq W (At t) (runs (𝓣 .C) (𝓣 .Λ) E body.turn-1 (anyQ (Turned t)))
+    passes : (t : Upto) → Sq W (At t) (runs (𝓣 .C) (𝓣 .Λ) E body.turn-1 (anyQ (Turned t)))
     unfolding afterTurn
-    rounds t =
+    passes t =
         -- [result; its token; work; its; rows; its (5); _15 (6); …; _13 (10); …; _11 (14); …; _10; …; _9 (18); …; _8 (20); …; _7; …; _6 (24); …; _5 (26); …; _4; …; _3; …; _2 (32); …; _1 (34); …; _0 (36); …]
         assigns ! (bin ! (load ! (from ! (stop !)) (look ! 24 refl)) (load ! (from ! (stop !)) (look ! 32 refl)) tt) (from ! (stop !)) (init ! 20 refl (tt, tt)) $
         tests ! (load ! (from ! (stop !)) (look ! 20 refl)) (λ h.
@@ -226,7 +226,7 @@ module _ {M : Type 1} (𝓤 : URA M) (H : Heap 𝓤) (A : Atoms 𝓤) (W : Given
 
     -- the loop, from what is passed
     begins : Sq W (Here u₀ 0) (runs (𝓣 .C) (𝓣 .Λ) E body.t-3 (atRet E Post))
-    begins = subst (λ (w : Told). Sq W (Here w 0) (runs (𝓣 .C) (𝓣 .Λ) E body.t-3 (atRet E Post))) (none-told ys u₀) (first ! $ blocks ! $ loops ! 𝓣 Nearer Nearer-wf At rounds (0, zero-le))
+    begins = subst (λ (w : Told). Sq W (Here w 0) (runs (𝓣 .C) (𝓣 .Λ) E body.t-3 (atRet E Post))) (none-told ys u₀) (first ! $ blocks ! $ loops ! 𝓣 Nearer Nearer-wf At passes (0, zero-le))
 
   walk : (𝓣 : Tables 𝓤 H) → Meets 𝓤 H A tell.signature (𝓣 .C tell.Symbol.name) (tell.spec 𝓤 H A mem run)
       → Room T.the-row n → m < 2 ^ 64 → Room u8 (length (x₁ .now)) → Room u8 (length (x₂ .now)) → (m ≤ n) × (m ≤ 256) × (24 + 8 * m ≤ length (x₁ .now)) × (workSize ≤ length (x₂ .now))

@@ -1,5 +1,5 @@
 -- `table::turns` meets its contract: a walk of its MIR, by hand, since the borrow checker covers no `&mut` slice of structs: a call of `turn_count`, and a loop, in it a call of `turn_at`, and a call of `take_turn` that the table and the working memory are lent to again and come back from (`Again.antt`'s `lends` and `backs`).
--- After k rounds the table and the memory are `runTurns shape ops list k` of those at entry, and are as long as they were: a slice that comes back from a call has its length, so no law of what a turn does is needed. All that the proof knows of the three callees is that they meet their contracts.
+-- After k passes the table and the memory are `runTurns shape ops list k` of those at entry, and are as long as they were: a slice that comes back from a call has its length, so no law of what a turn does is needed. All that the proof knows of the three callees is that they meet their contracts.
 -- Assumes nothing.
 use mathlib.Core.Path.{_≡_, refl, sym, _∙_, ap, subst}
 use Prim.Native.Nat.{ℕ, _+_, _-_, _/_, _<_, _≤_, _^_, zero-le}
@@ -52,7 +52,7 @@ use Rattle.table.specs.Turns.{Both, both, turnOn, runTurns, Takes}
 use Rattle.table.proofs.Again.{lends, backs}
 use Rattle.table.proofs.Calls.{sure, calls, passes-on}
 use Rattle.table.proofs.Lent.{word, bytes-shr, bytes-mut, rows-mut, byte-ref, row-ref, s, at, vs}
-use Rattle.table.proofs.Rounds.{word-fits, next-fits}
+use Rattle.table.proofs.Passes.{word-fits, next-fits}
 use Rattle.table.proofs.Turning.{Same, none-run, one-more, half-fits, turn-room}
 use Rattle.table.proofs.Rows.{tests}
 use Rattle.table.proofs.Shapes.{shapeVal, IsShape, shape-typed, own-shape}
@@ -67,7 +67,7 @@ use borrow.Author.Count.{falls}
 abbrev stayed : Stays (fn′.ended .signature .params) (fn′.ended .kept)
 stayed = (stay-slice (0 ∷ []) tt (plain (λ _. T.the-row)), (stay-dropped (shrSliceOf (1 ∷ []) tt (plain (λ _. u8))) yes, (stay-dropped (shrSliceOf (2 ∷ []) tt (plain (λ _. u8))) yes, (stay-dropped (plain (λ _. S.the-row)) yes, (stay-slice (3 ∷ []) tt (plain (λ _. u8)), tt)))))
 
--- the last statement of a round
+-- the last statement of a pass
 abbrev counts : Body
 counts = assign (place 7 []) (op2 (add unsigned) (copy (place 7 [])) (int w64 1))
 
@@ -157,20 +157,20 @@ module _ {M : Type 1} (𝓤 : URA M) (H : Heap 𝓤) (A : Atoms 𝓤) (W : Given
     abbrev At : Upto → List (Item 𝓤)
     At t = Here (after (t .0)) (t .0)
 
-    -- a round's postcondition
+    -- a pass's postcondition
     abbrev Turned : Upto → Out → SProp 𝓤
     Turned t = afterTurn 𝓤 H (Below 𝓤 H A Nearer At t) (afterBlock 𝓤 H (afterSeq 𝓤 H (Wp 𝓤 H (𝓣 .C) (𝓣 .Λ) E body.t-4 (atReturn 𝓤 H E Post)) (atReturn 𝓤 H E Post)))
 
-    -- the end of a round: the count of turns goes up
+    -- the end of a pass: the count of turns goes up
     ups : (t : Upto) → t .0 < m → (u : Both) → u ≡ after (t .0 + 1) → Same u u₀ → Sq W (Here u (t .0)) (runs (𝓣 .C) (𝓣 .Λ) E counts (anyQ (Turned t)))
     unfolding afterTurn
     ups t less u e l = subst (λ (w : Both). Sq W (Here w (t .0)) (runs (𝓣 .C) (𝓣 .Λ) E counts (anyQ (Turned t)))) (sym e)
         (assigns-last ! (bin ! (load ! (from ! (stop !)) (look ! 22 refl)) (lit ! tt) (record { fits = next-fits (t .0) m less m-fits })) (from ! (stop !)) (store ! 22 refl (tt, record { fits = next-fits (t .0) m less m-fits })) $
         again ! Nearer At t (t .0 + 1, (add-one-le less, subst (λ (w : Both). Same w u₀) e l)) (falls m (t .0) less))
 
-    rounds : (t : Upto) → Sq W (At t) (runs (𝓣 .C) (𝓣 .Λ) E body.turn-1 (anyQ (Turned t)))
+    passes : (t : Upto) → Sq W (At t) (runs (𝓣 .C) (𝓣 .Λ) E body.turn-1 (anyQ (Turned t)))
     unfolding afterTurn
-    rounds t =
+    passes t =
         -- [rows; its token; work; its; ops; its; list; its (7); _14 (8); …; _12 (12); …; _10 (16); …; _9 (18); …; _8 (20); …; _7 (22); …; _6 (24); …; _5 (26); …; _4 (28); …; _3 (30); …; _2 (32); …; _1 (34); …; _0 (36); …]
         assigns ! (bin ! (load ! (from ! (stop !)) (look ! 22 refl)) (load ! (from ! (stop !)) (look ! 24 refl)) tt) (from ! (stop !)) (init ! 18 refl (tt, tt)) $
         tests ! (load ! (from ! (stop !)) (look ! 18 refl)) (λ h.
@@ -228,7 +228,7 @@ module _ {M : Type 1} (𝓤 : URA M) (H : Heap 𝓤) (A : Atoms 𝓤) (W : Given
     -- the loop, from what is passed
     begins : Sq W (Here u₀ 0) (runs (𝓣 .C) (𝓣 .Λ) E body.t-3 (atRet E Post))
     begins = subst (λ (w : Both). Sq W (Here w 0) (runs (𝓣 .C) (𝓣 .Λ) E body.t-3 (atRet E Post))) none
-        (first ! $ blocks ! $ loops ! 𝓣 Nearer Nearer-wf At rounds (0, (zero-le, subst (λ (w : Both). Same w u₀) (sym none) (refl, refl))))
+        (first ! $ blocks ! $ loops ! 𝓣 Nearer Nearer-wf At passes (0, (zero-le, subst (λ (w : Both). Same w u₀) (sym none) (refl, refl))))
       where
         none : after 0 ≡ u₀
         none = none-run sh (x₁ .now) (x₂ .now) u₀

@@ -1,4 +1,4 @@
--- Numbers of a round of a loop: k of m rounds are done, and m is a number of 64 bits.
+-- Numbers of a pass of a loop: k of m passes are done, and m is a number of 64 bits.
 use Prim.Native.Nat.{ℕ, _+_, _<_, _^_}
 use native.Mathlib.Omega.{arith}
 
