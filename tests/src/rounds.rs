@@ -17,8 +17,7 @@ use crate::turn::{Stage, Turned};
 /// "In an accepted job with m operations and depth g, m × (2^g + 4g + 6) rounds
 /// finish them all."
 pub fn enough(job: &Job) -> usize {
-    let (m, g) = (job.operations.len(), job.file.depth as usize);
-    m * ((1 << g) + 4 * g + 6)
+    job.operations.len() * said(Kind::Insert, job.file.depth)
 }
 
 /// The turns that the operations of a job can use together, if each uses as many
@@ -26,6 +25,18 @@ pub fn enough(job: &Job) -> usize {
 pub fn most_used(job: &Job) -> usize {
     let used = |operation: &Operation| reached(operation.kind, job.file.depth);
     job.operations.iter().map(used).sum()
+}
+
+/// So many rounds, every operation in turn. "No search uses more than 2g + 3 turns",
+/// and none waits: after so many rounds the searches are finished, and need not be
+/// named.
+pub fn sure_rounds(job: &Job) -> Vec<Vec<usize>> {
+    let all: Vec<usize> = (0..job.operations.len()).collect();
+    let mut others = all.clone();
+    others.retain(|operation| job.operations[*operation].kind != Kind::Search);
+    let searching = said(Kind::Search, job.file.depth);
+    let round = |number| if number < searching { &all } else { &others };
+    (0..most_used(job)).map(|n| round(n).clone()).collect()
 }
 
 /// "Let a round be a list in which every operation unfinished at its start has at
@@ -60,7 +71,8 @@ pub type Deal = fn(&mut Run, usize) -> Turned;
 /// Who makes the next round, from the state that the last one has left.
 #[derive(Clone, Copy, Debug, PartialEq, Eq)]
 pub enum Dealer {
-    /// Each unfinished operation once, by rising number, by falling, in any order.
+    /// Each unfinished operation once, by rising number, by falling, in an order drawn
+    /// by lot.
     Rising,
     Falling,
     AnyOrder,

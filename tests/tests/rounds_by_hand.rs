@@ -14,7 +14,7 @@ use chargefile_tests::make_most_turns::misled;
 use chargefile_tests::make_rounds::{contended, hotel_of_forty};
 use chargefile_tests::random::Random;
 use chargefile_tests::rounds::{
-    deal_rounds, enough, is_round, most_used, rounds_in, unlocks_next, Dealer, DEALERS,
+    deal_rounds, enough, is_round, most_used, rounds_in, sure_rounds, unlocks_next, Dealer, DEALERS,
 };
 use chargefile_tests::run::Run;
 use chargefile_tests::seeds::few_seeds;
@@ -188,6 +188,21 @@ fn the_example_needs_each_of_its_rounds() {
     assert_eq!(last, [37, 38]);
     let call = |operation: usize| job.operations[operation].call;
     assert_eq!((call(37), call(38)), (208, 204));
+}
+
+/// The list that docs/TURNS.md has for the hotel: nine rounds of all forty, then 551 of the inserts and deletes. Each part of it is a round.
+#[test]
+fn a_list_that_is_sure_and_fits() {
+    let hotel = hotel_of_forty();
+    let rounds = sure_rounds(&hotel);
+    assert_eq!((rounds.len(), rounds.concat().len()), (9 + 551, 15_788));
+    assert!(rounds.concat().len() <= MAX_TURNS);
+    let mut run = Run::new(&hotel);
+    for round in rounds {
+        assert!(is_round(&run, &round), "{round:?}");
+        run.deal_all(&round);
+    }
+    assert_eq!(run.unfinished().count(), 0);
 }
 
 /// Deals every operation in turn, from 0 on, as many rounds as are enough. All are finished, and the turns behind the last that did something change

@@ -126,7 +126,8 @@ fn the_most_rounds_of_small_jobs() {
         assert_eq!(search, said(Kind::Search, depth), "depth {depth}");
     }
     println!("{jobs} jobs, {states} states; in {found} a dealer needs the most");
-    assert!(jobs > 2_000 && states > 200_000 && 3 * found > 2 * jobs);
+    assert_eq!(jobs, 2_574);
+    assert!(states > 200_000 && 3 * found > 2 * jobs);
 }
 
 /// The other two numbers of the table.

@@ -16,7 +16,9 @@ use chargefile_tests::make_rounds::{
 };
 use chargefile_tests::random::Random;
 use chargefile_tests::result::answer_bytes;
-use chargefile_tests::rounds::{deal_rounds, enough, rounds_in, Dealt, DEALERS};
+use chargefile_tests::rounds::{
+    deal_rounds, enough, is_round, rounds_in, sure_rounds, Dealt, DEALERS,
+};
 use chargefile_tests::run::Run;
 use chargefile_tests::seeds::few_seeds;
 use chargefile_tests::tally::all_seen;
@@ -170,6 +172,36 @@ fn jobs_of_the_most_turns_and_the_hotel() {
     let lists = met.lists;
     the_library_finishes_all(&hotel_of_forty(), &mut met);
     assert_eq!(met.lists, lists + DEALERS.len(), "a job can carry each");
+}
+
+/// As many rounds as the turns that all can use together, without the searches once these must be finished. None if no job can carry the list.
+fn surely(job: &Job) -> Option<()> {
+    let list = sure_rounds(job).concat();
+    if list.len() > MAX_TURNS {
+        return None;
+    }
+    let mut run = Run::new(job);
+    for round in sure_rounds(job) {
+        assert!(is_round(&run, &round), "{round:?}");
+        run.deal_all(&round);
+    }
+    let job = with_list(job, &list);
+    all_done(&job, &by_both(&job), &run);
+    Some(())
+}
+
+/// The hotel, the stored jobs, and jobs that contend for a page.
+#[test]
+fn lists_that_are_sure() {
+    assert!(surely(&hotel_of_forty()).is_some());
+    let carried = stored().iter().filter_map(|(_, job)| surely(job)).count();
+    assert!(carried > 150, "{carried} stored jobs");
+    let mut carried = 0;
+    let whole = few_seeds(4, |seed| {
+        let jobs = contended_of_each(seed, "sure");
+        carried += jobs.iter().filter_map(surely).count();
+    });
+    assert!(carried > 200 || !whole, "{carried} contended jobs");
 }
 
 /// The job with the list that names every operation in turn, from 0 on, over and over, so many rounds as are said to be enough: all answered, and a

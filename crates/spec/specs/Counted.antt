@@ -1,4 +1,4 @@
--- Jobs whose operations use as many turns as any of their kind can, at depths 0, 1 and 8; and one that asks how many rounds it needs.
+-- Jobs whose operations use as many turns as any of their kind can, at depths 0, 1 and 8; and a hotel's forty operations, to be counted.
 use Prim.Native.Nat.{ℕ}
 use mathlib.Core.List.{List, [], _∷_, _++_}
 use lib.ListN.{take, drop, replicate}
@@ -43,9 +43,9 @@ jobWide =
     ++ (2 ∷ 0 ∷ []) ++ four 33 ++ four 10  -- operation 0
     ++ each two (replicate 270 0)  -- turns
 
--- "A hotel with 40 operations", at depth 3: sixteen inserts, twelve deletes and twelve searches
-abbrev pub hotel : Job
-hotel =
+-- "A hotel with 40 operations", at depth 3: sixteen inserts, twelve deletes and twelve searches. Only its depth and their kinds count here
+abbrev pub forty : Job
+forty =
     record {
       file = record { g = 3; c = 4; limit = 8; used = 1; directory = replicate 8 1; table = replicate 9 zeroPage };
       ops =

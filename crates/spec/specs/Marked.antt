@@ -24,7 +24,7 @@ use Rattle.spec.specs.Claims.{fed}
 use Rattle.spec.specs.MostTurns.{longest, mostTurns, sharpTurns, under}
 use Rattle.spec.specs.Rounds.{below, inTurn, mostRounds, allTurns, sharpRounds}
 use Rattle.spec.specs.Worked.{jobB, resultB, textB, jobLong, jobLate, resultLate, jobRest, resultRest, jobC, resultC, jobDeep, resultDeep, jobInsert, resultD, resultE2, jobG, resultG, jobH, resultH, jobI, resultI, jobJ, resultJ, jobRising, resultRising, jobPut, resultPut, jobTaken, resultTaken, jobStrike, resultStruck, resultLeft, jobBursars, textBursars}
-use Rattle.spec.specs.Counted.{jobFlat, jobTeased, jobWide, hotel}
+use Rattle.spec.specs.Counted.{jobFlat, jobTeased, jobWide, forty}
 use Rattle.spec.specs.OneKey.{jobTwo, resultTwo, jobThree, resultThree}
 use Rattle.spec.specs.Opened.{opened}
 
@@ -44,8 +44,8 @@ data Asked : Type 0 where
   most : ℕ → Kind → Asked
   sharp : ℕ → Kind → Asked
   used : List ℕ → Asked
-  rounds : Job → Asked
-  fewer : Job → Asked
+  mostAll : Job → Asked
+  sharpAll : Job → Asked
   after : ℕ → List ℕ → Asked
 
 data Said : Type 0 where
@@ -67,8 +67,8 @@ says (list b) =
 says (most g k) = number (mostTurns g k)
 says (sharp g k) = number (sharpTurns g k)
 says (used b) = numbers (map (λ (a : Told). a .used) (readResult (resultBytes b) .answers))
-says (rounds j) = number (mostRounds j)
-says (fewer j) = number (sharpRounds j)
+says (mostAll j) = number (mostRounds j)
+says (sharpAll j) = number (sharpRounds j)
 says (after k b) = number (countUnder (under (jobOf b) (inTurn (length (jobOf b .ops)) k) .rows))
 
 record Item : Type 0 where
@@ -206,10 +206,10 @@ most-used = refl
 -- second, the insert in the ninth, and the delete, which then has to let its page go, in the sixteenth
 abbrev inRounds : List Item
 inRounds =
-    (rounds hotel ⇒ number 1040)
-    ∷ (fewer hotel ⇒ number 560)
-    ∷ (rounds (jobOf jobB) ⇒ number 48)
-    ∷ (fewer (jobOf jobB) ⇒ number 28)
+    (mostAll forty ⇒ number 1040)
+    ∷ (sharpAll forty ⇒ number 560)
+    ∷ (mostAll (jobOf jobB) ⇒ number 48)
+    ∷ (sharpAll (jobOf jobB) ⇒ number 28)
     ∷ (after 1 jobB ⇒ number 4)
     ∷ (after 2 jobB ⇒ number 2)
     ∷ (after 8 jobB ⇒ number 2)
