@@ -101,6 +101,32 @@ impl Run {
         turned
     }
 
+    /// The run after one turn more, dealt in this way. Its clock stands still:
+    /// which turn it is settles moments, but no step asks for it, and by the
+    /// clock no two states would be the same.
+    pub fn after(&self, operation: usize, deal: impl Fn(&mut Run, usize) -> Turned) -> Run {
+        let mut next = self.clone();
+        deal(&mut next, operation);
+        next.now = 0;
+        next
+    }
+
+    /// All that the next steps depend on, as a text: directory, pages, pages in
+    /// use, locks, and the next step of each operation.
+    pub fn state(&self) -> String {
+        let file = &self.shared.file;
+        let locked = |page: &usize| self.shared.locked(*page);
+        let locks: Vec<usize> = (1..=file.pages.len()).filter(locked).collect();
+        let stages: Vec<_> = self.rows.iter().map(|row| &row.progress.stage).collect();
+        let pages = &file.pages[..file.in_use];
+        format!("{:?} {pages:?} {locks:?} {stages:?}", file.directory)
+    }
+
+    /// The turns that each operation has used.
+    pub fn used(&self) -> Vec<usize> {
+        self.rows.iter().map(|row| row.used).collect()
+    }
+
     /// Deals a list of turns.
     pub fn deal_all(&mut self, turns: &[usize]) {
         for &operation in turns {

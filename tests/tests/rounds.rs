@@ -51,7 +51,7 @@ fn finishes(job: &Job, dealer: Dealer) -> Dealt {
 fn finishes_with_all(job: &Job, met: &mut Met) {
     for dealer in DEALERS {
         let dealt = finishes(job, dealer);
-        let used: Vec<usize> = dealt.run.rows.iter().map(|row| row.used).collect();
+        let used = dealt.run.used();
         met.held.hold_all(job, &used);
         met.waits += dealt.run.waits;
         met.idle += dealt.run.idle;

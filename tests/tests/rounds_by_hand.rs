@@ -178,7 +178,7 @@ fn the_example_needs_each_of_its_rounds() {
     assert_eq!(job.turns.len(), 58 * 40);
     let full = |number: &usize| job.file.page(*number).records.len() == 4;
     assert_eq!((job.file.in_use, (1..=3).filter(full).count()), (3, 2));
-    assert_eq!(run.rows.iter().map(|row| row.used).max(), Some(12));
+    assert_eq!(run.used().into_iter().max(), Some(12));
     let round = |operation: usize| run.rows[operation].ended_on.expect("finished") / 40 + 1;
     let is_search = |operation: &usize| job.operations[*operation].kind == Kind::Search;
     assert_eq!((0..40).filter(is_search).map(round).max(), Some(3));
@@ -215,7 +215,7 @@ fn everyone_in_turn(job: &Job) -> (usize, usize) {
         run.deal(turn % m);
     });
     assert_eq!(run.unfinished().count(), 0);
-    let used: Vec<usize> = run.rows.iter().map(|row| row.used).collect();
+    let used = run.used();
     Held::default().hold_all(job, &used);
     let last = run.rows.iter().filter_map(|row| row.ended_on).max();
     let needed: Vec<usize> = (0..=last.expect("an operation"))

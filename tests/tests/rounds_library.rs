@@ -81,7 +81,7 @@ fn one_unfinished(job: &Job, result: &[u8], last: usize) -> Kind {
 
 /// The list of a dealer: whole, up to its last needed turn, and without that.
 fn the_library_finishes(job: &Job, dealt: &Dealt, met: &mut Met) {
-    let mut used: Vec<usize> = dealt.run.rows.iter().map(|row| row.used).collect();
+    let mut used = dealt.run.used();
     let Some(last) = dealt.last_needed() else {
         assert!(used.is_empty());
         return;

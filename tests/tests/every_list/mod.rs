@@ -18,13 +18,13 @@ pub struct Lists {
 /// would be no end of states.
 pub fn every_list(job: &Job) -> Lists {
     let start = Run::new(job);
-    let mut seen = HashSet::from([state(&start)]);
+    let mut seen = HashSet::from([(start.state(), start.used())]);
     let mut most = vec![0; job.operations.len()];
     let mut open = vec![start];
     while let Some(run) = open.pop() {
         for (operation, most) in most.iter_mut().enumerate() {
-            let next = turned(&run, operation);
-            if seen.insert(state(&next)) {
+            let next = run.after(operation, Run::deal);
+            if seen.insert((next.state(), next.used())) {
                 let used = next.rows[operation].used;
                 within(job.operations[operation].kind, job.file.depth, used);
                 *most = used.max(*most);
@@ -36,25 +36,4 @@ pub fn every_list(job: &Job) -> Lists {
         most,
         states: seen.len(),
     }
-}
-
-/// A run after one turn more. Its clock stands still: which turn it is settles moments, but no step asks for it, and by the clock no two states would
-/// be the same.
-fn turned(run: &Run, operation: usize) -> Run {
-    let mut next = run.clone();
-    next.deal(operation);
-    next.now = 0;
-    next
-}
-
-/// All that the next steps and the counts depend on, as a text: directory, pages, pages in use, locks, and of each operation its next step and its turns
-/// used.
-fn state(run: &Run) -> String {
-    let file = &run.shared.file;
-    let locked = |page: &usize| run.shared.locked(*page);
-    let locks: Vec<usize> = (1..=file.pages.len()).filter(locked).collect();
-    let rows = run.rows.iter();
-    let rows: Vec<_> = rows.map(|row| (&row.progress.stage, row.used)).collect();
-    let pages = &file.pages[..file.in_use];
-    format!("{:?} {pages:?} {locks:?} {rows:?}", file.directory)
 }

@@ -43,16 +43,16 @@ impl States {
     fn of(job: &Job, deal: Deal) -> Option<States> {
         let operations = 0..job.operations.len();
         let start = Run::new(job);
-        let mut numbers = HashMap::from([(key(&start), 0)]);
+        let mut numbers = HashMap::from([(start.state(), 0)]);
         let mut open = vec![start];
         let (mut unfinished, mut after) = (Vec::new(), Vec::new());
         // those behind the last that was looked at are still open
         while let Some(run) = open.get(after.len()).cloned() {
             let mut nexts = Vec::new();
             for operation in operations.clone() {
-                let next = turned(&run, operation, deal);
+                let next = run.after(operation, deal);
                 let new = numbers.len();
-                let number = *numbers.entry(key(&next)).or_insert(new);
+                let number = *numbers.entry(next.state()).or_insert(new);
                 if number == new {
                     open.push(next);
                 }
@@ -68,25 +68,6 @@ impl States {
         }
         Some(States { unfinished, after })
     }
-}
-
-/// A run after one turn more. Its clock stands still: which turn it is settles moments, but no step asks for it, and by the clock no two states would
-/// be the same.
-fn turned(run: &Run, operation: usize, deal: Deal) -> Run {
-    let mut next = run.clone();
-    deal(&mut next, operation);
-    next.now = 0;
-    next
-}
-
-/// All that the next steps depend on, as a text: directory, pages, pages in use, locks, and the next step of each operation.
-fn key(run: &Run) -> String {
-    let file = &run.shared.file;
-    let locked = |page: &usize| run.shared.locked(*page);
-    let locks: Vec<usize> = (1..=file.pages.len()).filter(locked).collect();
-    let stages: Vec<_> = run.rows.iter().map(|row| &row.progress.stage).collect();
-    let pages = &file.pages[..file.in_use];
-    format!("{:?} {pages:?} {locks:?} {stages:?}", file.directory)
 }
 
 /// The most rounds from each state on, until these operations are finished.

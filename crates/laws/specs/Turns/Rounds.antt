@@ -123,10 +123,6 @@ module _ (ops : List Op) where
   unfolding rowOf
   other-row i k s n = step-case (λ t. rowOf t i ≡ rowOf s i) ops s k refl (λ l e. rowOf-other s k i (moveOf s k) n)
 
-  own-used : (i : ℕ) (s : State) → idle (s .locks) (stageOf s i) ≡ false → rowOf (step ops s i) i .used ≡ rowOf s i .used + 1
-  own-used i s e =
-      ap (λ (t : State). rowOf t i .used) (step-moves s i e) ∙ ap (λ (r : Row). r .used) (rowOf-same s i (moveOf s i) (moves-row s i e))
-
   steps-used : (s : State) (ts : List ℕ) (i : ℕ) → rowOf s i .used ≤ rowOf (steps ops s ts) i .used
   unfolding rowOf
   steps-used s ts = steps-keep (λ t. (i : ℕ) → rowOf s i .used ≤ rowOf t i .used) ops more s ts (λ i. le-refl (rowOf s i .used))
@@ -136,6 +132,13 @@ module _ (ops : List Op) where
           step-case (λ v. (i : ℕ) → rowOf s i .used ≤ rowOf v i .used) ops t k h
           (λ l e. row-after t k (moveOf t k) l (λ i r. rowOf s i .used ≤ r .used) (omega (arith, h k)) (λ i n. h i))
 
+  -- a turn of its own that does not wait is used, whatever follows
+  own-used : (i : ℕ) (s : State) (ts : List ℕ) → idle (s .locks) (stageOf s i) ≡ false → rowOf s i .used < rowOf (steps ops (step ops s i) ts) i .used
+  own-used i s ts e =
+      let own : rowOf (act s i (moveOf s i)) i .used ≡ rowOf s i .used + 1
+      = ap (λ (r : Row). r .used) (rowOf-same s i (moveOf s i) (moves-row s i e)) in
+      omega (arith, ap (λ (t : State). rowOf t i .used) (step-moves s i e), steps-used (step ops s i) ts i)
+
   -- under a list that names it, an operation that no lock makes wait uses a turn
   never-waits
       : (i : ℕ) (s : State) (ts : List ℕ)
@@ -143,10 +146,10 @@ module _ (ops : List Op) where
       → ((l : List Bool) → idle l (stageOf s i) ≡ false)
       → rowOf s i .used < rowOf (steps ops s ts) i .used
   unfolding steps stageOf
-  never-waits i s (t ∷ ts) here f = omega (arith, own-used i s (f (s .locks)), steps-used (step ops s i) ts i)
+  never-waits i s (t ∷ ts) here f = own-used i s ts (f (s .locks))
   never-waits i s (t ∷ ts) (there h) f =
       by-cases (ℕ-discrete i t)
-      (λ (q : i ≡ t). rw (← q) (omega (arith, own-used i s (f (s .locks)), steps-used (step ops s i) ts i)))
+      (λ (q : i ≡ t). rw (← q) (own-used i s ts (f (s .locks))))
       (λ n. rw (other-row i t s n) at (never-waits i (step ops s t) ts h (rw (other-row i t s n, stageOf) f)))
 
 below-has : (m i : ℕ) → i < m → Has i (below m)
