@@ -21,7 +21,7 @@ result-most : (h : Header) → Limits h → resultSize h ≤ mostResult
 unfolding resultSize
 result-most h l = omega (arith, file-most h l, l .ops)
 
-module _ (b : List ℕ) (l : Lent) (result : mostResult ≤ l .result) (rows : 256 ≤ l .rows) (work : workSize ≤ l .work) where
+module _ (b : List ℕ) (l : Lent) (result : mostResult ≤ l .output) (rows : 256 ≤ l .rows) (work : workSize ≤ l .work) where
   never : jobFault b ≡ none → smallOutput l b ≡ none
   unfolding smallOutput
   never e =

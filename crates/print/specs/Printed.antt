@@ -20,7 +20,7 @@ pub record Stands (x s t : List ℕ) (n : ℕ) : Type 0 where
 
 -- what is lent to the run: the result buffer s, a table of 256 rows, and the working memory w
 abbrev pub lentHere : List ℕ → List ℕ → Lent
-lentHere s w = record { result = length s; rows = 256; work = length w }
+lentHere s w = record { output = length s; rows = 256; work = length w }
 
 -- The whole outcome of printing the bytes b, with the result buffer, the working memory and the text's buffer before (s, w, o) and after (t, u, p):
 -- the text tells the job's first fault, or its run where it has none, and the run leaves buffer and memory; or there was no room for every text, and

@@ -21,7 +21,7 @@ use Rattle.turn.specs.Rows.{rowImage, blankRow, stageIn}
 
 -- the lengths of what is lent
 abbrev pub lent : List ℕ → List Row → List ℕ → Lent
-lent s x w = record { result = length s; rows = length x; work = length w }
+lent s x w = record { output = length s; rows = length x; work = length w }
 
 -- the bytes b are a job that meets no row of the refusal table, with s, x and w lent
 pub record Accepted (b s : List ℕ) (x : List Row) (w : List ℕ) : Type 0 where

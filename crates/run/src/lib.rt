@@ -35,7 +35,7 @@ const WORK_SIZE: usize = 24576;
 // 11 output: "result buffer under .. (place 0); lent table under m rows (place 1); other lent working memory under .. (place 2)". Lengths only.
 fn small_output(h: Header, result: usize, rows: usize, work: usize) -> Spot
     requires { ⌜ Limits (countsOf h) ⌝ }
-    ensures { λ r. ⌜ ((b : List ℕ) → countsOf h ≡ headerOf b → r ≡ spotOf (smallOutput (record { result = result; rows = rows; work = work }) b)) ⌝ }
+    ensures { λ r. ⌜ ((b : List ℕ) → countsOf h ≡ headerOf b → r ≡ spotOf (smallOutput (record { output = result; rows = rows; work = work }) b)) ⌝ }
 {
     if result < 24 + 12 * h.ops + h.ops_offset() {
         return Spot::At(0);
@@ -51,7 +51,7 @@ fn small_output(h: Header, result: usize, rows: usize, work: usize) -> Spot
 
 // "11 comes last": every row of the refusal table.
 fn check_all(job: &[u8], result: usize, rows: usize, work: usize) -> Checked
-    ensures { λ r. ⌜ (r ≡ checkedOf (firstFault (record { result = result; rows = rows; work = work }) (now (job .entry)))) × AreBytes (now (job .entry)) ⌝ }
+    ensures { λ r. ⌜ (r ≡ checkedOf (firstFault (record { output = result; rows = rows; work = work }) (now (job .entry)))) × AreBytes (now (job .entry)) ⌝ }
 {
     let c = job::check(job);
     if let Checked::Refused(number, place) = c {

@@ -165,9 +165,9 @@ turnFault h t u = when (leb (h .ops) (numberOf u)) (turnPlace h t)
 unfoldable pub wrongTurn : List ℕ → Option ℕ
 wrongTurn b = let h = headerOf b in firstOf (turnFault h) 0 (turnParts h b)
 
--- The lengths of what is lent: result buffer in bytes, table in rows, other working memory in bytes.
+-- The lengths of what is lent: the buffer of the output in bytes, table in rows, other working memory in bytes.
 pub record Lent : Type 0 where
-  pub result : ℕ
+  pub output : ℕ
   pub rows : ℕ
   pub work : ℕ
 
@@ -179,11 +179,15 @@ resultSize h = 24 + 12 * h .ops + fileLength h
 abbrev pub workSize : ℕ
 workSize = 24576
 
--- 11 output: "result buffer under .. (place 0); lent table under m rows (place 1); other lent working memory under .. (place 2)"
+-- 11, of a call that asks for an output buffer of `size` bytes (place 0); "lent table under m rows (place 1); other lent working memory under ..
+-- (place 2)"
+unfoldable pub smallFor : ℕ → Lent → List ℕ → Option ℕ
+smallFor size l b =
+    among (when (ltb (l .output) size) 0 ∷ when (ltb (l .rows) (headerOf b .ops)) 1 ∷ when (ltb (l .work) workSize) 2 ∷ [])
+
+-- 11 output: "result buffer under 24 + 12m + the charge file's length (place 0)"
 unfoldable pub smallOutput : Lent → List ℕ → Option ℕ
-smallOutput l b =
-    let h = headerOf b in
-    among (when (ltb (l .result) (resultSize h)) 0 ∷ when (ltb (l .rows) (h .ops)) 1 ∷ when (ltb (l .work) workSize) 2 ∷ [])
+smallOutput l b = smallFor (resultSize (headerOf b)) l b
 
 -- "Checked by rising number except that 11 comes last", and that 12, 6 and 13 stand "where 6 stood": the rows that are about a job's bytes alone, in
 -- the order in which they are checked

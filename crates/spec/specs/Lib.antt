@@ -27,11 +27,14 @@ pub mod Cases
 pub mod Report
 -- "Tidying between runs"
 pub mod Tidy
+-- "Turns dealt for the site"
+pub mod Deal
 -- what is claimed
 pub mod Proper
 pub mod Claims
 pub mod MostTurns
 pub mod Rounds
+pub mod Dealt
 pub mod Tidied
 pub mod Months
 -- by computation: the marked items, the refusal table, files tidied

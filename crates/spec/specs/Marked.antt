@@ -30,7 +30,7 @@ use Rattle.spec.specs.Opened.{opened}
 
 -- what is lent: a result buffer of 1,000 bytes that are all 7, 5 rows, and the least working memory
 abbrev lent : Lent
-lent = record { result = 1000; rows = 5; work = 24576 }
+lent = record { output = 1000; rows = 5; work = 24576 }
 
 abbrev buffer : List ℕ
 buffer = replicate 1000 7

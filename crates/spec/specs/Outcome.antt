@@ -43,9 +43,15 @@ bufferAfter l b buffer =
 
 -- the lent table: "every row of the lent table has one fixed value, the same for every job, that stands for an operation not begun".
 -- The fixed value is the code's to choose: its row of numbers for an operation not begun
+unfoldable pub rowsBy : {A : Type 0} → Option Fault → A → List A → List A
+rowsBy fault fixed rows = afterCall fault rows (replicate (length rows) fixed)
+
 unfoldable pub rowsAfter : {A : Type 0} → A → Lent → List ℕ → List A → List A
-rowsAfter fixed l b rows = afterCall (firstFault l b) rows (replicate (length rows) fixed)
+rowsAfter fixed l b rows = rowsBy (firstFault l b) fixed rows
 
 -- the working memory: "After a run, lent working memory is zero"
+unfoldable pub workBy : Option Fault → List ℕ → List ℕ
+workBy fault work = afterCall fault work (replicate (length work) 0)
+
 unfoldable pub workAfter : Lent → List ℕ → List ℕ → List ℕ
-workAfter l b work = afterCall (firstFault l b) work (replicate (length work) 0)
+workAfter l b work = workBy (firstFault l b) work

@@ -42,7 +42,7 @@ record Edit : Type 0 where
   says : Option Fault
 
 abbrev lend : ℕ → ℕ → ℕ → Lent
-lend r t w = record { result = r; rows = t; work = w }
+lend r t w = record { output = r; rows = t; work = w }
 
 -- 24 + 12 * 2 + the 96 bytes of the charge file
 abbrev enough : Lent
