@@ -90,6 +90,14 @@ pub fn op_at(ops: &[u8], i: usize) -> Op
     op_of(&ops[at..end])
 }
 
+// Operation i of a job.
+pub fn op_in(job: &[u8], h: Header, i: usize) -> Op
+    requires { ⌜ Heads h (now job) × (i < h .ops) ⌝ }
+    ensures { λ r. ⌜ r ≡ opAt (opsIn (countsOf h) (now (job .entry))) i ⌝ }
+{
+    op_at(parts::operations(job, h), i)
+}
+
 // How many turns a turn list has.
 pub fn turn_count(list: &[u8]) -> usize
     ensures { λ r. ⌜ r ≡ length (now (list .entry)) / turnSize ⌝ }

@@ -48,7 +48,7 @@ module _ {b s : List ℕ} {x : List Row} {w : List ℕ} (a : Accepted b s x w) w
     abbrev pub first : Both
     first = both (replicate (length x) blankRow) work₁
 
-    first-shown : Running b 0 first
+    first-shown : Running (jobOf b) 0 first
     first-shown = begun o w (enough a h e .2) (length x) (enough a h e .1)
 
     -- `take_turns`
@@ -75,7 +75,7 @@ module _ {b s : List ℕ} {x : List Row} {w : List ℕ} (a : Accepted b s x w) w
         turns-ask
 
     module _ (q : Both) (t : q ≡ allTurns h b (length (turnsIn (countsOf h) b) / 2) first) where
-      last-shown : Running b (h .turns) q
+      last-shown : Running (jobOf b) (h .turns) q
       last-shown = rw (t, turn-count o) (running o (h .turns) first (omega arith) first-shown)
 
       -- `tell_rows`

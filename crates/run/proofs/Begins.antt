@@ -100,7 +100,7 @@ module _ {h : Header} {b : List ℕ} (a : Accepts h b) where
           pages = λ x n m. rw (capacity-is a) (page x n (rw (pages-are a) at m));
         }
 
-    pub begun : (n : ℕ) → h .ops ≤ n → Running b 0 (both (replicate n blankRow) u)
+    pub begun : (n : ℕ) → h .ops ≤ n → Running (jobOf b) 0 (both (replicate n blankRow) u)
     begun n m =
         record {
           shown = rw (stateAt-zero (jobOf b)) (start-shown (jobOf b .file) (length (jobOf b .ops)) _ file-loaded);

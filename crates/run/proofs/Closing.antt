@@ -51,7 +51,7 @@ module _ {h : Header} {b : List ℕ} (a : Accepts h b) where
   turns-few : s .now ≤ 16384
   turns-few = omega (arith, run-now (jobOf b), proper a .turnCount)
 
-  module _ {o : Both} (r : Running b (h .turns) o) where
+  module _ {o : Both} (r : Running (jobOf b) (h .turns) o) where
     shown : Shown s (o .work)
     shown = rw ended at (r .shown)
 

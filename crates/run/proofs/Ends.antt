@@ -13,9 +13,9 @@ use Rattle.spec.specs.declared.Outcome.the-variants.{Done}
 use Rattle.spec.specs.Basics.{if, orElse}
 use Rattle.spec.specs.Decode.{headerOf, jobOf}
 use Rattle.spec.specs.Result.{Result, result, readResult}
-use Rattle.spec.specs.Check.{Lent, Fault, workSize, resultSize, smallOutput, numbered, jobFault, firstFault}
+use Rattle.spec.specs.Check.{Lent, Fault, workSize, resultSize, smallFor, smallOutput, numbered, jobFault, firstFault}
 use Rattle.spec.specs.Cases.{spotOf, checkedOf}
-use Rattle.spec.specs.Outcome.{resultBytes, outcomeBy, outcome, afterCall, bufferBy, bufferAfter, rowsAfter, workAfter}
+use Rattle.spec.specs.Outcome.{resultBytes, outcomeBy, outcome, afterCall, bufferBy, bufferAfter, rowsBy, rowsAfter, workBy, workAfter}
 use Rattle.laws.specs.Codec.Tools.{failed, among-none, among-end}
 use Rattle.laws.specs.Codec.Sizes.{bytes-total}
 use Rattle.laws.specs.ReadBack.{reads}
@@ -77,6 +77,11 @@ accepted-none (some f) e = absurd (true-false (sym e))
 
 -- ---- a job that meets no row
 
+-- row 11 does not hold: what is lent is enough
+pub enough-for : (size : ℕ) (l : Lent) (b : List ℕ) → smallFor size l b ≡ none → (size ≤ l .output) × (headerOf b .ops ≤ l .rows) × (workSize ≤ l .work)
+unfolding smallFor
+enough-for size l b e = let z = simp (failed, among-none, among-end) at e in (z .0, z .1 .0, z .1 .1 .0)
+
 none-of : (j : Option Fault) (o : Option ℕ) → orElse j (numbered 11 o) ≡ none → (j ≡ none) × (o ≡ none)
 unfolding orElse numbered
 none-of none none e = (refl, refl)
@@ -93,10 +98,8 @@ module _ {b s : List ℕ} {x : List Row} {w : List ℕ} (a : Accepted b s x w) w
   pub accepts : (h : Header) → countsOf h ≡ headerOf b → Accepts h b
   accepts h c = record { bytes = a .bytes; accepted = neither .0; counts = c }
 
-  -- what is lent is enough: row 11 does not hold
   pub enough : (h : Header) → countsOf h ≡ headerOf b → (resultSize (countsOf h) ≤ length s) × (h .ops ≤ length x) × (workSize ≤ length w)
-  unfolding smallOutput
-  enough h c = let z = simp (failed, among-none, among-end) at (neither .1) in (rw c (z .0), rw (← c) at (z .1 .0), z .1 .1 .0)
+  enough h c = let z = enough-for (resultSize (headerOf b)) (lent s x w) b (unfold smallOutput in neither .1) in (rw c (z .0), rw (← c) at (z .1), z .2)
 
   -- demand 3 of what is written, its pages and turns used, and the rounds that finish the job
   written : {t : List ℕ} {y : List Row} {u : List ℕ} {v : ℕ} → Ran b s t x y w u v → Written b t (Done v)
@@ -112,7 +115,7 @@ module _ {b s : List ℕ} {x : List Row} {w : List ℕ} (a : Accepted b s x w) w
       }
 
   pub ran : {t : List ℕ} {y : List Row} {u : List ℕ} {v : ℕ} → Ran b s t x y w u v → Settled b s t x y w u (Done v)
-  unfolding outcome outcomeBy bufferBy bufferAfter rowsAfter workAfter afterCall
+  unfolding outcome outcomeBy bufferBy bufferAfter rowsBy rowsAfter workBy workAfter afterCall
   ran r =
       let e = a .faultless in
       record {
@@ -131,7 +134,7 @@ refused-by
     → firstFault (lent s x w) b ≡ f
     → isAccepted (checkedOf f) ≡ false
     → Settled b s s x x w w (refusedBy (checkedOf f))
-unfolding isAccepted refusedBy checkedOf outcome outcomeBy bufferBy bufferAfter rowsAfter workAfter afterCall
+unfolding isAccepted refusedBy checkedOf outcome outcomeBy bufferBy bufferAfter rowsBy rowsAfter workBy workAfter afterCall
 refused-by b s x w none q e = absurd (true-false e)
 refused-by b s x w (some f) q e =
     record { answer = rw q; result = rw q; rows = rw q; work = rw q; fixed = (sym blank-row, blank-stage); written = λ z. absurd (some-none (sym q ∙ z)) }

@@ -14,5 +14,5 @@ unfoldable pub refusedBy : Checked → Outcome
 refusedBy Accepted = RefusedFor 0 0
 refusedBy (Refused n p) = RefusedFor n p
 
-abbrev pub ranFor : ℕ → Outcome
-ranFor v = DoneFor v
+abbrev pub doneFor : ℕ → Outcome
+doneFor v = DoneFor v

@@ -5,7 +5,8 @@ use mathlib.Core.Option.{none}
 use Prim.Native.Nat.{ℕ, _≤_, _<_}
 use lib.ListN.{length, getD}
 use Rattle.spec.specs.Bytes.{AreBytes}
-use Rattle.spec.specs.Decode.{headerOf, jobOf}
+use Rattle.spec.specs.Job.{Job}
+use Rattle.spec.specs.Decode.{headerOf}
 use Rattle.spec.specs.Run.{rowOf}
 use Rattle.spec.specs.Check.{jobFault}
 use Rattle.spec.specs.Claims.{stateAt}
@@ -30,8 +31,8 @@ pub record Accepts (h : Header) (b : List ℕ) : Type 0 where
   pub accepted : jobFault b ≡ none
   pub counts : countsOf h ≡ headerOf b
 
--- The table and the memory show the job b after its first k turns
-pub record Running (b : List ℕ) (k : ℕ) (s : Both) : Type 0 where
-  pub shown : Shown (stateAt (jobOf b) k) (s .work)
-  pub table : (q : ℕ) → q < length (jobOf b .ops) → getD (s .rows) q blankRow ≡ rowImage (rowOf (stateAt (jobOf b) k) q)
-  pub room : length (jobOf b .ops) ≤ length (s .rows)
+-- The table and the memory show the job j after its first k turns
+pub record Running (j : Job) (k : ℕ) (s : Both) : Type 0 where
+  pub shown : Shown (stateAt j k) (s .work)
+  pub table : (q : ℕ) → q < length (j .ops) → getD (s .rows) q blankRow ≡ rowImage (rowOf (stateAt j k) q)
+  pub room : length (j .ops) ≤ length (s .rows)

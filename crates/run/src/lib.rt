@@ -15,7 +15,7 @@ ghost use Rattle.spec.specs.Bytes.{AreBytes};
 ghost use Rattle.spec.specs.Decode.{headerOf};
 ghost use Rattle.spec.specs.State.{State};
 ghost use Rattle.spec.specs.Result.{resultOf};
-ghost use Rattle.spec.specs.Check.{workSize, resultSize, smallOutput, firstFault};
+ghost use Rattle.spec.specs.Check.{workSize, resultSize, smallFor, smallOutput, firstFault};
 ghost use Rattle.spec.specs.Cases.{spotOf, checkedOf};
 ghost use Rattle.laws.specs.Codec.Rows.{Limits};
 ghost use Rattle.header.specs.Counts.{countsOf, Heads};
@@ -23,7 +23,7 @@ ghost use Rattle.memory.specs.Load.{loaded};
 ghost use Rattle.reader.specs.Parts.{directoryIn, tableIn, opsIn, turnsIn};
 ghost use Rattle.result.specs.Finish.{Ready, Finished};
 ghost use Rattle.table.specs.Turns.{both, Takes};
-ghost use Rattle.run.specs.Answer.{isAccepted, refusedBy, ranFor};
+ghost use Rattle.run.specs.Answer.{isAccepted, refusedBy, doneFor};
 ghost use Rattle.run.specs.Table.{shapeFor, allTurns};
 ghost use Rattle.run.specs.Call.{Accepted, Ran, Settled};
 
@@ -32,12 +32,12 @@ const WORK_SIZE: usize = 24576;
 
 // ---- the check
 
-// 11 output: "result buffer under .. (place 0); lent table under m rows (place 1); other lent working memory under .. (place 2)". Lengths only.
-fn small_output(h: Header, result: usize, rows: usize, work: usize) -> Spot
-    requires { ⌜ Limits (countsOf h) ⌝ }
-    ensures { λ r. ⌜ ((b : List ℕ) → countsOf h ≡ headerOf b → r ≡ spotOf (smallOutput (record { output = result; rows = rows; work = work }) b)) ⌝ }
+// 11, where an output buffer of `size` bytes is asked for (place 0); "lent table under m rows (place 1); other lent working memory under .. (place
+// 2)". Lengths only.
+pub fn small_for(h: Header, size: usize, output: usize, rows: usize, work: usize) -> Spot
+    ensures { λ r. ⌜ ((b : List ℕ) → countsOf h ≡ headerOf b → r ≡ spotOf (smallFor size (record { output = output; rows = rows; work = work }) b)) ⌝ }
 {
-    if result < 24 + 12 * h.ops + h.ops_offset() {
+    if output < size {
         return Spot::At(0);
     }
     if rows < h.ops {
@@ -47,6 +47,15 @@ fn small_output(h: Header, result: usize, rows: usize, work: usize) -> Spot
         return Spot::At(2);
     }
     Spot::Nowhere
+}
+
+// 11 output: "result buffer under 24 + 12m + the charge file's length (place 0)"
+fn small_output(h: Header, result: usize, rows: usize, work: usize) -> Spot
+    requires { ⌜ Limits (countsOf h) ⌝ }
+    ensures { λ r. ⌜ ((b : List ℕ) → countsOf h ≡ headerOf b → r ≡ spotOf (smallOutput (record { output = result; rows = rows; work = work }) b)) ⌝ }
+{
+    let size = 24 + 12 * h.ops + h.ops_offset();
+    small_for(h, size, result, rows, work)
 }
 
 // "11 comes last": every row of the refusal table.
@@ -64,7 +73,7 @@ fn check_all(job: &[u8], result: usize, rows: usize, work: usize) -> Checked
     Checked::Accepted
 }
 
-fn is_accepted(c: Checked) -> bool
+pub fn is_accepted(c: Checked) -> bool
     ensures { λ r. ⌜ r ≡ isAccepted c ⌝ }
 {
     match c {
@@ -74,7 +83,7 @@ fn is_accepted(c: Checked) -> bool
 }
 
 // "A refusal gives the number and a place". (No accepted job comes here.)
-fn refused(c: Checked) -> Outcome
+pub fn refused(c: Checked) -> Outcome
     ensures { λ r. ⌜ r ≡ refusedBy c ⌝ }
 {
     match c {
@@ -85,7 +94,7 @@ fn refused(c: Checked) -> Outcome
 
 // ---- the run
 
-fn shape_of(h: Header) -> Shape
+pub fn shape_of(h: Header) -> Shape
     ensures { λ r. ⌜ r ≡ shapeFor h ⌝ }
 {
     Shape {
@@ -96,7 +105,7 @@ fn shape_of(h: Header) -> Shape
 }
 
 // "The turn list starts from the file as it came in, no page locked"
-fn load(job: &[u8], h: Header, work: &mut [u8])
+pub fn load(job: &[u8], h: Header, work: &mut [u8])
     requires { ⌜ Heads h (now job) × (workSize ≤ length (now work)) ⌝ }
     ensures { λ _. ⌜ now (work .exit) ≡ loaded (now (work .entry)) (directoryIn (countsOf h) (now (job .entry))) (tableIn (countsOf h) (now (job .entry))) (h .capacity) (h .used) ⌝ }
 {
@@ -150,8 +159,8 @@ fn run_accepted(job: &[u8], result: &mut [u8], rows: &mut [Row], work: &mut [u8]
     close(h, under, result, work)
 }
 
-fn ran(total: usize) -> Outcome
-    ensures { λ r. ⌜ r ≡ ranFor total ⌝ }
+pub fn done(total: usize) -> Outcome
+    ensures { λ r. ⌜ r ≡ doneFor total ⌝ }
 {
     Outcome::Done(total)
 }
@@ -163,7 +172,7 @@ pub fn run(job: &[u8], result: &mut [u8], rows: &mut [Row], work: &mut [u8]) -> 
     let c = check_all(job, result.len(), rows.len(), work.len());
     if is_accepted(c) {
         let total = run_accepted(job, result, rows, work);
-        ran(total)
+        done(total)
     } else {
         refused(c)
     }

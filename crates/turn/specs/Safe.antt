@@ -96,3 +96,8 @@ pub record Safe (sh : Shape) (op : Op) (r : Row) (w : List ℕ) : Type 0 where
   pub ready : Ready sh w
   pub few : Few r
   pub at : SafeAt sh op w (stageIn r)
+
+-- what it asks to look whether the operation can use a turn: a page that is to be locked lies in the memory
+pub record Lockable (r : Row) (w : List ℕ) : Type 0 where
+  pub size : workSize ≤ length w
+  pub page : (x : ℕ) → stageIn r ≡ Lock x → x ≤ 256

@@ -2,6 +2,7 @@
 -- machine's turn; here what takes the machine a walk over the directory or the history is one look-up or a few steps.
 use Prim.Native.Nat.{ℕ, suc, _+_, _-_, _*_, _^_}
 use mathlib.Core.List.{List}
+use mathlib.Core.Bool.{Bool, true, false, not}
 use lib.Dec.{ltb, leb, eqb}
 use lib.ListN.{getD, length}
 use Rattle.spec.specs.declared.Found.{Found}
@@ -176,3 +177,16 @@ memTurn sh op t r w Done = out r w
 
 unfoldable pub memStep : Shape → Op → ℕ → Row → List ℕ → Out
 memStep sh op t r w = memTurn sh op t r w (stageIn r)
+
+-- an operation at a stage uses no turn: the page that it is to lock is locked, or it is finished
+unfoldable pub idleAt : List ℕ → Stage → Bool
+idleAt w NotBegun = false
+idleAt w (ReadPage x) = false
+idleAt w (Reread x u) = false
+idleAt w (Lock x) = not (eqb (lockIn w x) 0)
+idleAt w (Held x k) = false
+idleAt w (Split x b n q) = false
+idleAt w Done = true
+
+unfoldable pub idles : Row → List ℕ → Bool
+idles r w = idleAt w (stageIn r)

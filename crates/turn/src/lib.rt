@@ -11,8 +11,8 @@ use spec::Op;
 use spec::Stage;
 ghost use mathlib.Core.Path.{_≡_};
 ghost use Rattle.turn.specs.Rows.{blankRow};
-ghost use Rattle.turn.specs.Steps.{out, memStep};
-ghost use Rattle.turn.specs.Safe.{Safe};
+ghost use Rattle.turn.specs.Steps.{out, memStep, idles};
+ghost use Rattle.turn.specs.Safe.{Safe, Lockable};
 
 // An operation's row: its stage in numbers, its turns used, and its answer, with the page that is told; 16 bytes, and no padding. A page (`page`,
 // `told`) is kept as its number less one, so that page 256 has a byte too, and what a split counts (`count`, `next`) is below 256. `base` may be a
@@ -66,5 +66,22 @@ impl Row {
             Stage::Done => {}
         }
         self
+    }
+
+    // A turn would do nothing for the operation: it "only waits", or is finished.
+    pub fn idles(self, work: &[u8]) -> bool
+        requires { ⌜ Lockable self (now work) ⌝ }
+        ensures { λ r. ⌜ r ≡ idles self (now (work .entry)) ⌝ }
+    {
+        let st = rows::stage_of(self);
+        match st {
+            Stage::NotBegun => false,
+            Stage::ReadPage(_) => false,
+            Stage::Reread(_, _) => false,
+            Stage::Lock(x) => memory::is_locked(work, x),
+            Stage::Held(_, _) => false,
+            Stage::Split(_, _, _, _) => false,
+            Stage::Done => true,
+        }
     }
 }

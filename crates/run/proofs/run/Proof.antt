@@ -1,4 +1,4 @@
--- `run::run` meets its contract: a walk of its MIR, by hand, since the borrow checker covers no `&mut` slice of structs. `check_all` and `is_accepted` are called, and by their answer either `run_accepted` and `ran`, or `refused`.
+-- `run::run` meets its contract: a walk of its MIR, by hand, since the borrow checker covers no `&mut` slice of structs. `check_all` and `is_accepted` are called, and by their answer either `run_accepted` and `done`, or `refused`.
 -- What is lent goes to `run_accepted` for good, at its own lifetimes (`gave-slice`); where the job is refused, what each slice owns says that its last value is the one it has (`gives-up`). The enums are only moved: of each the walk has its machine value, and what it owns is made anew where it is asked for.
 -- All that the proof knows of the functions that are called is that they meet their contracts.
 -- Assumes nothing.
@@ -49,7 +49,7 @@ use Rattle.spec.specs.Check.{firstFault}
 use Rattle.spec.specs.Cases.{checkedOf}
 use Rattle.turn.specs.declared.Row.{Row}
 use Rattle.turn.proofs.Row as T
-use Rattle.run.specs.Answer.{isAccepted, refusedBy, ranFor}
+use Rattle.run.specs.Answer.{isAccepted, refusedBy, doneFor}
 use Rattle.run.specs.Call.{lent, Accepted, Ran, Settled}
 use Rattle.run.proofs.Ends as ends
 use Rattle.table.proofs.Calls.{sure, calls, calls-last, gives-up, passes-on}
@@ -58,7 +58,7 @@ use Rattle.run.proofs.Lent.{job-ty, result-ty, rows-ty, work-ty, Params
 use Rattle.run.proofs.check_all as check
 use Rattle.run.proofs.is_accepted as is-acc
 use Rattle.run.proofs.run_accepted as acc
-use Rattle.run.proofs.ran as ran
+use Rattle.run.proofs.done as done′
 use Rattle.run.proofs.refused as refused
 use Rattle.run.proofs.run.Key.{name as #run·run}
 use Rattle.run.proofs.run as fn′
@@ -86,7 +86,7 @@ module _ (b s : List ℕ) (x : List Row) (w : List ℕ) where
   accepts : (c : Checked) (y : Bool) → Says c → y ≡ isAccepted c → dec.T y → Accepted b s x w
   accepts c y e a h = record { bytes = e .1; faultless = ends.accepted-none _ (sym (ap isAccepted (e .0)) ∙ (sym a ∙ is-true y h)) }
 
-  settled-ran : (t : List ℕ) (z : List Row) (u : List ℕ) (n : ℕ) (r : Outcome) → Accepted b s x w → Ran b s t x z w u n → r ≡ ranFor n → Settled b s t x z w u r
+  settled-ran : (t : List ℕ) (z : List Row) (u : List ℕ) (n : ℕ) (r : Outcome) → Accepted b s x w → Ran b s t x z w u n → r ≡ doneFor n → Settled b s t x z w u r
   settled-ran t z u n r a e f = subst (λ (o : Outcome). Settled b s t x z w u o) (sym f) (ends.ran a e)
 
   settled-refused : (c : Checked) (y : Bool) (r : Outcome) → Says c → y ≡ isAccepted c → dec.T (not y) → r ≡ refusedBy c → Settled b s s x x w w r
@@ -97,7 +97,7 @@ record Known {M : Type 1} (𝓤 : URA M) (H : Heap 𝓤) (A : Atoms 𝓤) (mem :
   check : Meets 𝓤 H A check.signature (C check.Symbol.name) (check.spec 𝓤 H A mem run)
   is-acc : Meets 𝓤 H A is-acc.signature (C is-acc.Symbol.name) (is-acc.spec 𝓤 H A mem run)
   acc : Meets 𝓤 H A acc.signature (C acc.Symbol.name) (acc.spec 𝓤 H A mem run)
-  ran : Meets 𝓤 H A ran.signature (C ran.Symbol.name) (ran.spec 𝓤 H A mem run)
+  done′ : Meets 𝓤 H A done′.signature (C done′.Symbol.name) (done′.spec 𝓤 H A mem run)
   refused : Meets 𝓤 H A refused.signature (C refused.Symbol.name) (refused.spec 𝓤 H A mem run)
 
 module _ {M : Type 1} (𝓤 : URA M) (H : Heap 𝓤) (A : Atoms 𝓤) (W : Given 𝓤 H A) (mem : Memory → SProp 𝓤) (run : Routine → Fun 𝓤)
@@ -192,10 +192,10 @@ module _ {M : Type 1} (𝓤 : URA M) (H : Heap 𝓤) (A : Atoms 𝓤) (W : Given
           -- [work's last; true; rows'; result's; the tokens; what n owns (5); _17 (6); …; _6 (28); …]
           move ! (5 ∷ []) $ peeks ! usize (Is usize) (shows 𝓤 H A usize) n (v ∷ []) (λ is₁.
           land ! (from ! (stop !)) (init ! 28 refl (uint-lawful 𝓤 H A W w64 .typed n _ is₁ .0)) $
-          -- what n owns goes to `ran`
+          -- what n owns goes to `done`
           move ! (0 ∷ 2 ∷ []) $ fjoin ! $ nothing ! $
-          -- [what `ran` asks; work's last; rows'; result's; the tokens; _17 (5); …; _6 (27); …]
-          calls-last ! fm ran.ended (ran.clauses 𝓤 H A mem run) (known .ran) ((tt, tt, tt, (n, tt), (v ∷ [], tt)), tt) (id⊢ 𝓤 _) (id⊢ 𝓤 _) (id⊢ 𝓤 _) (and-then ! (load ! (from ! (stop !)) (look ! 27 refl)) (no-more !)) (λ r _. r ≡ ranFor n) (λ r _. id⊢ 𝓤 _) (λ v′ r _ e₂. drop ! $
+          -- [what `done` asks; work's last; rows'; result's; the tokens; _17 (5); …; _6 (27); …]
+          calls-last ! fm done′.ended (done′.clauses 𝓤 H A mem run) (known .done′) ((tt, tt, tt, (n, tt), (v ∷ [], tt)), tt) (id⊢ 𝓤 _) (id⊢ 𝓤 _) (id⊢ 𝓤 _) (and-then ! (load ! (from ! (stop !)) (look ! 27 refl)) (no-more !)) (λ r _. r ≡ doneFor n) (λ r _. id⊢ 𝓤 _) (λ v′ r _ e₂. drop ! $
           -- [what r owns; true; work's last; rows'; result's; the tokens; _17 (6); …; _11 (18); …]
           peeks ! Ou.the-row (Is Ou.the-row) (shows 𝓤 H A Ou.the-row) r (v′ ∷ []) (λ is₂.
           land-last ! (from ! (stop !)) (init ! 18 refl (EL.lawful Ou.the-type Ou′.the-laws 𝓤 H A W tt .typed r _ is₂ .0)) $
@@ -275,6 +275,6 @@ run-spec 𝓤 H 𝓜 𝓖 𝓡 =
       check = cited 𝓤 H (tripleOf 𝓤 H (𝓖 .A) check.signature (check.spec 𝓤 H (𝓖 .A) (𝓜 .mem) (𝓡 .run))) 𝓜 𝓡 code.env check.Symbol.name check.Symbol.routine code.calls-run·check-all (check.Met.met 𝓤 H 𝓜 𝓖 𝓡);
       is-acc = cited 𝓤 H (tripleOf 𝓤 H (𝓖 .A) is-acc.signature (is-acc.spec 𝓤 H (𝓖 .A) (𝓜 .mem) (𝓡 .run))) 𝓜 𝓡 code.env is-acc.Symbol.name is-acc.Symbol.routine code.calls-run·is-accepted (is-acc.Met.met 𝓤 H 𝓜 𝓖 𝓡);
       acc = cited 𝓤 H (tripleOf 𝓤 H (𝓖 .A) acc.signature (acc.spec 𝓤 H (𝓖 .A) (𝓜 .mem) (𝓡 .run))) 𝓜 𝓡 code.env acc.Symbol.name acc.Symbol.routine code.calls-run·run-accepted (acc.Met.met 𝓤 H 𝓜 𝓖 𝓡);
-      ran = cited 𝓤 H (tripleOf 𝓤 H (𝓖 .A) ran.signature (ran.spec 𝓤 H (𝓖 .A) (𝓜 .mem) (𝓡 .run))) 𝓜 𝓡 code.env ran.Symbol.name ran.Symbol.routine code.calls-run·ran (ran.Met.met 𝓤 H 𝓜 𝓖 𝓡);
+      done′ = cited 𝓤 H (tripleOf 𝓤 H (𝓖 .A) done′.signature (done′.spec 𝓤 H (𝓖 .A) (𝓜 .mem) (𝓡 .run))) 𝓜 𝓡 code.env done′.Symbol.name done′.Symbol.routine code.calls-run·done (done′.Met.met 𝓤 H 𝓜 𝓖 𝓡);
       refused = cited 𝓤 H (tripleOf 𝓤 H (𝓖 .A) refused.signature (refused.spec 𝓤 H (𝓖 .A) (𝓜 .mem) (𝓡 .run))) 𝓜 𝓡 code.env refused.Symbol.name refused.Symbol.routine code.calls-run·refused (refused.Met.met 𝓤 H 𝓜 𝓖 𝓡);
     }))
