@@ -12,4 +12,5 @@ pub mod Holding
 pub mod Splitting
 -- the step on bytes is the machine's step, and may be taken
 pub mod Sim
+pub mod Idle
 pub mod SafeTurns
