@@ -71,3 +71,4 @@ pub mod Rounds
 -- turns dealt: what is left to use, and that it runs out
 pub mod Sums
 pub mod Remaining
+pub mod Dealing
