@@ -228,6 +228,10 @@ module _ (ops : List Op) where
       rw (steps-append ops s r (rounds n ops (steps ops s r)))
       (rounds-done n (steps ops s r) (steps-sound ops s r h) (omega arith) i))
 
+pub dealt-uses : (j : Job) → Uses (j .ops) (start (j .file) (length (j .ops))) (dealt j)
+unfolding dealt dealtBy
+dealt-uses j = rounds-uses (j .ops) maxDealt _
+
 -- a job whose file is proper, with no more operations than a job can have
 module _ (j : Job) (ok : FileOk (j .file)) (few : length (j .ops) ≤ maxOps) where
   abbrev started : State
@@ -245,15 +249,11 @@ module _ (j : Job) (ok : FileOk (j .file)) (few : length (j .ops) ≤ maxOps) wh
   pub uses-fit : (ts : List ℕ) → Uses (j .ops) started ts → length ts ≤ maxDealt
   uses-fit ts u = omega (arith, uses-remaining (j .ops) started ts (start-sound j ok) u, start-most)
 
-  dealt-uses : Uses (j .ops) started (dealt j)
-  unfolding dealt dealtBy
-  dealt-uses = rounds-uses (j .ops) maxDealt started
-
   pub dealt-fits : length (dealt j) ≤ maxDealt
-  dealt-fits = uses-fit (dealt j) dealt-uses
+  dealt-fits = uses-fit (dealt j) (dealt-uses j)
 
   pub dealt-named : Each (λ t. t < length (j .ops)) (dealt j)
-  dealt-named = uses-named (j .ops) started (dealt j) (start-sound j ok) dealt-uses
+  dealt-named = uses-named (j .ops) started (dealt j) (start-sound j ok) (dealt-uses j)
 
   -- all finish, so the bound of the rounds cuts nothing off
   pub dealt-done : (i : ℕ) → stageOf (run (dealtJob j)) i ≡ Done
@@ -267,7 +267,7 @@ module _ (j : Job) (ok : FileOk (j .file)) (few : length (j .ops) ≤ maxOps) wh
 
   moves : (t : ℕ) → t < length (dealt j) → idle (stateAt (dealtJob j) t .locks) (stageOf (stateAt (dealtJob j) t) (getD (dealt j) t 0)) ≡ false
   unfolding stateAt
-  moves t l = uses-at (j .ops) started (dealt j) t dealt-uses l
+  moves t l = uses-at (j .ops) started (dealt j) t (dealt-uses j) l
 
   -- no operation, no turn
   dealt-empty : j .ops ≡ [] → dealt j ≡ []
