@@ -6,7 +6,7 @@ use mathlib.Core.List.{List, [], _∷_, _++_, append-assoc, append-nil}
 use mathlib.Core.Bool.{true, false, true≢false, false≢true}
 use native.Mathlib.Omega.{arith}
 use native.Mathlib.Nat.{mul-le-mul-right}
-use native.Mathlib.Decide.{ℕ-discrete, decLt}
+use native.Mathlib.Decide.{ℕ-discrete, decLt, decLe}
 use lib.ListN.{length, getD, take}
 use lib.Pow.{pow-mono}
 use Rattle.spec.specs.declared.Op.{Op}
@@ -228,6 +228,7 @@ module _ (ops : List Op) where
       rw (steps-append ops s r (rounds n ops (steps ops s r)))
       (rounds-done n (steps ops s r) (steps-sound ops s r h) (omega arith) i))
 
+-- every turn of the dealt list is used
 pub dealt-uses : (j : Job) → Uses (j .ops) (start (j .file) (length (j .ops))) (dealt j)
 unfolding dealt dealtBy
 dealt-uses j = rounds-uses (j .ops) maxDealt _
@@ -264,6 +265,11 @@ module _ (j : Job) (ok : FileOk (j .file)) (few : length (j .ops) ≤ maxOps) wh
   unfolding run dealt dealtBy round
   dealt-whole n l =
       rounds-more (j .ops) maxDealt n started l (round-over (j .ops) (length (j .ops)) 0 _ dealt-done)
+
+  -- and for a loop: a round that deals nothing is the last, whichever it is
+  pub dealt-ends : (n : ℕ) → round (j .ops) (steps (j .ops) started (dealtBy n j)) ≡ [] → dealtBy n j ≡ dealt j
+  unfolding dealt dealtBy
+  dealt-ends n e = by-cases (decLe n maxDealt) (λ l. sym (rounds-more (j .ops) n maxDealt started l e)) (λ l. dealt-whole n (omega arith))
 
   moves : (t : ℕ) → t < length (dealt j) → idle (stateAt (dealtJob j) t .locks) (stageOf (stateAt (dealtJob j) t) (getD (dealt j) t 0)) ≡ false
   unfolding stateAt
