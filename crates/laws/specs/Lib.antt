@@ -14,6 +14,7 @@ pub mod InOrder
 pub mod PagesTold
 pub mod MostTurns
 pub mod Rounds
+pub mod Dealt
 pub mod Room
 -- tidying: which pages are left, in whatever order they are joined; the tidied file; months one after another
 pub mod Tidy

@@ -176,3 +176,13 @@ module _ {A : Type 0} where
   unfolding allOf
   true-allOf f [] h = refl
   true-allOf f (x ∷ xs) h = rw (first h) (true-allOf f xs (rest h))
+
+  -- a member that fails it
+  pub allOf-false : (f : A → Bool) (xs : List A) (d : A) → allOf f xs ≡ false → (i : ℕ) × (f (getD xs i d) ≡ false)
+  unfolding allOf
+  allOf-false f [] d h = absurd (true≢false h)
+  allOf-false f (x ∷ xs) d h = by (f x) refl (λ z. allOf-false f xs d (rw z at h))
+    where
+      by : (b : Bool) → f x ≡ b → (f x ≡ true → (i : ℕ) × (f (getD xs i d) ≡ false)) → (i : ℕ) × (f (getD (x ∷ xs) i d) ≡ false)
+      by true z k = let w = k z in (suc (w .0), w .1)
+      by false z k = (0, z)

@@ -68,3 +68,7 @@ pub mod Spent
 pub mod SpentTurns
 -- rounds: how many finish every operation
 pub mod Rounds
+-- turns dealt: what is left to use, and that it runs out
+pub mod Sums
+pub mod Remaining
+pub mod Dealing

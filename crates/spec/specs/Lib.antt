@@ -37,7 +37,7 @@ pub mod Rounds
 pub mod Dealt
 pub mod Tidied
 pub mod Months
--- by computation: the marked items, the refusal table, files tidied
+-- by computation: the marked items, the refusal table, files tidied, turns dealt
 pub mod Opened
 pub mod Worked
 pub mod OneKey
@@ -45,3 +45,4 @@ pub mod Counted
 pub mod Marked
 pub mod Refusals
 pub mod Tidying
+pub mod Dealing

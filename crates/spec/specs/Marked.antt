@@ -1,6 +1,6 @@
 -- The marked items of "Jobs worked through" as one table, from job bytes to result bytes, refusal or printed text. One proof covers its rows.
 -- A second table is for calls that rise, a third for the pages told with answers, a fourth for deletes at a charge, a fifth for calls that share
--- a pseudo key, a sixth for how many turns an operation uses at most, and a seventh for how many rounds finish a job.
+-- a pseudo key, a sixth for how many turns an operation uses at most, a seventh for how many rounds finish a job, and an eighth for lists dealt.
 use Prim.Native.Nat.{ℕ}
 use mathlib.Core.Path.{_≡_, refl}
 use mathlib.Core.List.{List, [], _∷_, _++_, map}
@@ -20,6 +20,7 @@ use Rattle.spec.specs.PlainList.{Reply, Replay}
 use Rattle.spec.specs.Check.{Lent}
 use Rattle.spec.specs.Outcome.{resultBytes, outcome, bufferAfter}
 use Rattle.spec.specs.Report.{printed}
+use Rattle.spec.specs.Deal.{dealt}
 use Rattle.spec.specs.Claims.{fed}
 use Rattle.spec.specs.MostTurns.{longest, mostTurns, sharpTurns, under}
 use Rattle.spec.specs.Rounds.{below, inTurn, mostRounds, allTurns, sharpRounds}
@@ -47,6 +48,7 @@ data Asked : Type 0 where
   mostAll : Job → Asked
   sharpAll : Job → Asked
   after : ℕ → List ℕ → Asked
+  deal : List ℕ → Asked
 
 data Said : Type 0 where
   number : ℕ → Said
@@ -70,6 +72,7 @@ says (used b) = numbers (map (λ (a : Told). a .used) (readResult (resultBytes b
 says (mostAll j) = number (mostRounds j)
 says (sharpAll j) = number (sharpRounds j)
 says (after k b) = number (countUnder (under (jobOf b) (inTurn (length (jobOf b .ops)) k) .rows))
+says (deal b) = numbers (dealt (jobOf b))
 
 record Item : Type 0 where
   asked : Asked
@@ -221,6 +224,21 @@ inRounds =
 rounds-told : map (λ (m : Item). says (m .asked)) inRounds ≡ map (λ (m : Item). m .paper) inRounds
 unfolding opened longest sharpTurns under below inTurn allTurns
 rounds-told = refl
+
+-- "each unfinished operation gets one turn, and one that would only wait at that moment is passed over until the next round": for job E's operations,
+-- of which the delete is passed over while the insert splits its page, and gets its turn in the round in which the insert unlocks; for (C)'s one insert;
+-- for the two bursars, one of whom is passed over; and for a charge file
+abbrev lists : List Item
+lists =
+    (deal jobH ⇒ numbers (0 ∷ 1 ∷ 2 ∷ 3 ∷ 0 ∷ 1 ∷ 3 ∷ 0 ∷ 0 ∷ 0 ∷ 0 ∷ 0 ∷ 0 ∷ 0 ∷ 2 ∷ 2 ∷ 2 ∷ 2 ∷ 2 ∷ 2 ∷ 2 ∷ 2 ∷ []))
+    ∷ (deal jobC ⇒ numbers (replicate 11 0))
+    ∷ (deal jobBursars ⇒ numbers (0 ∷ 1 ∷ 0 ∷ 0 ∷ 0 ∷ 0 ∷ 1 ∷ 1 ∷ 1 ∷ 1 ∷ 1 ∷ []))
+    ∷ (deal (jobI 8) ⇒ numbers [])
+    ∷ []
+
+dealt-lists : map (λ (m : Item). says (m .asked)) lists ≡ map (λ (m : Item). m .paper) lists
+unfolding opened
+dealt-lists = refl
 
 -- a list of some thousand turns computes too
 long-list : says (job jobLong) ≡ ran resultB

@@ -33,7 +33,7 @@ unmoved-file : (j : Job) → j .turns ≡ [] → result j .file ≡ some (encode
 unfolding result resultOf fileLeft start if
 unmoved-file j e = rw (unmoved j e, none-under (length (j .ops)))
 
-no-member : {A : Type 0} (l : List A) → length l ≡ 0 → l ≡ []
+pub no-member : {A : Type 0} (l : List A) → length l ≡ 0 → l ≡ []
 no-member l e = drop-of-length-le l {i = 0} (omega arith)
 
 -- THE RESULT'S FILE IS THE ONE THAT CAME IN

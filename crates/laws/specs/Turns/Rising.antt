@@ -169,12 +169,10 @@ pub record LeftNow (s : State) (st : Stage) (f' : File) (c : List Change) (e x :
   pub deeper : pageAt (s .file) x .depth < pageAt f' (entryAt f' e) .depth
 
 module _ (ops : List Op) (s : State) (i : ℕ) (m : Move)
-    (lt : i < length (s .rows))
     (good : Good ops s)
     (coherent : Coherent ops s)
     (d : Does s (getD ops i noOp) (stageOf s i) m)
     (w : Writes (s .file) (stageOf s i) m)
-    (h : Rising s)
   where
     abbrev f : File
     f = s .file
@@ -214,35 +212,6 @@ module _ (ops : List Op) (s : State) (i : ℕ) (m : Move)
         (λ (z : m .page ≡ none). rw (z, tableAfter))
         (d .single)
 
-    higher-after : (e x : ℕ) → Left (act s i m) e x → x < entryAt f' e
-    unfolding entryAt
-    higher-after e x k =
-        ⊎-elim (λ a. let z = h .higher e x (sym (a .others x .0) ∙ k) in omega (arith, a .names))
-        (λ a. ⊎-elim (λ l. let z = h .higher e x l in omega (arith, a .up)) (λ l. omega (arith, a .up)) (was-left e x k))
-        (entry e)
-
-    pub left-case
-        : (e x : ℕ)
-        → Left (act s i m) e x
-        → BeginsAt f (pageAt f' x) e
-        → LeftBefore s f' (act s i m .changes) e x ⊎ LeftNow s (stageOf s i) f' (act s i m .changes) e x
-    unfolding entryAt
-    left-case e x k b =
-        ⊎-elim
-        (λ a.
-        let l : Left s e x = sym (a .others x .0) ∙ k in
-        let u = h .higher e x l in
-        let px = page x (h .reached i e x l) .begun e (h .within e x l) b (λ z. omega arith) in
-        inl (record { left = l; begun = px .1; depth = px .0; turn = a .others x .1 }))
-        (λ a.
-        let pg : (y : ℕ) → pageAt f' y ≡ pageAt f y = λ y. page-kept e y (a .up) in
-        let px : pageAt f' x .depth ≡ pageAt f x .depth = rw (pg x) in
-        by-cases (ℕ-discrete x (entryAt f e))
-        (λ (q : x ≡ entryAt f e).
-        inr (record { stage = rw q (a .stage); depth = px; turn = rw q (a .turn); deeper = rw (pg (entryAt f' e), q) (a .deeper) }))
-        (λ q. inl (record { left = sym (a .others x q .0) ∙ k; begun = rw (pg x) at b; depth = px; turn = a .others x q .1 })))
-        (entry e)
-
     -- the page that an entry names is as deep as the one that it named, or deeper
     pub entry-deep : (e : ℕ) → pageAt f (entryAt f e) .depth ≤ pageAt f' (entryAt f' e) .depth
     unfolding entryAt
@@ -260,35 +229,65 @@ module _ (ops : List Op) (s : State) (i : ℕ) (m : Move)
     entry-deeper e n =
         ⊎-elim (λ a. absurd (n (a .names))) (λ a. rw (page-kept e (entryAt f' e) (a .up)) (a .deeper)) (entry e)
 
-    deeper-after
-        : (e x : ℕ)
-        → Left (act s i m) e x
-        → BeginsAt f (pageAt f' x) e
-        → pageAt f' x .depth < pageAt f' (entryAt f' e) .depth
-    deeper-after e x k b =
-        ⊎-elim (λ a. let z = h .deeper e x (a .left) (a .begun) in let y = entry-deep e in omega (arith, a .depth))
-        (λ a. omega (arith, a .depth, a .deeper))
-        (left-case e x k b)
+    module _ (lt : i < length (s .rows)) (h : Rising s) where
+      higher-after : (e x : ℕ) → Left (act s i m) e x → x < entryAt f' e
+      unfolding entryAt
+      higher-after e x k =
+          ⊎-elim (λ a. let z = h .higher e x (sym (a .others x .0) ∙ k) in omega (arith, a .names))
+          (λ a. ⊎-elim (λ l. let z = h .higher e x l in omega (arith, a .up)) (λ l. omega (arith, a .up)) (was-left e x k))
+          (entry e)
 
-    reached-after : (j e x : ℕ) → Left (act s i m) e x → Unreached (stageOf (act s i m) j) x → ⊥
-    reached-after j e x k =
-        stage-after s i m lt (λ j st. Unreached st x → ⊥)
-        (λ u. ⊎-elim (λ v. old i v) (λ v. ⊎-elim (λ a. let z = h .higher e x a in let y = in-use e (h .within e x a) in omega arith)
-        (λ a. let y = in-use e (a .1) in omega (arith, a .0)) (was-left e x k)) (new-pages s _ (stageOf s i) (d .starts) u))
-        (λ j n. old j)
-        j
-      where
-        old : (j : ℕ) → Unreached (stageOf s j) x → ⊥
-        old j u = ⊎-elim (λ a. h .reached j e x a u) (λ a. named j e x (sym (a .0)) u) (was-left e x k)
+      pub left-case
+          : (e x : ℕ)
+          → Left (act s i m) e x
+          → BeginsAt f (pageAt f' x) e
+          → LeftBefore s f' (act s i m .changes) e x ⊎ LeftNow s (stageOf s i) f' (act s i m .changes) e x
+      unfolding entryAt
+      left-case e x k b =
+          ⊎-elim
+          (λ a.
+          let l : Left s e x = sym (a .others x .0) ∙ k in
+          let u = h .higher e x l in
+          let px = page x (h .reached i e x l) .begun e (h .within e x l) b (λ z. omega arith) in
+          inl (record { left = l; begun = px .1; depth = px .0; turn = a .others x .1 }))
+          (λ a.
+          let pg : (y : ℕ) → pageAt f' y ≡ pageAt f y = λ y. page-kept e y (a .up) in
+          let px : pageAt f' x .depth ≡ pageAt f x .depth = rw (pg x) in
+          by-cases (ℕ-discrete x (entryAt f e))
+          (λ (q : x ≡ entryAt f e).
+          inr (record { stage = rw q (a .stage); depth = px; turn = rw q (a .turn); deeper = rw (pg (entryAt f' e), q) (a .deeper) }))
+          (λ q. inl (record { left = sym (a .others x q .0) ∙ k; begun = rw (pg x) at b; depth = px; turn = a .others x q .1 })))
+          (entry e)
 
-    act-rising : Rising (act s i m)
-    act-rising =
-        record {
-          within = λ e x k. ⊎-elim (λ a. h .within e x a) (λ a. a .1) (was-left e x k);
-          higher = higher-after;
-          deeper = deeper-after;
-          reached = reached-after;
-        }
+      deeper-after
+          : (e x : ℕ)
+          → Left (act s i m) e x
+          → BeginsAt f (pageAt f' x) e
+          → pageAt f' x .depth < pageAt f' (entryAt f' e) .depth
+      deeper-after e x k b =
+          ⊎-elim (λ a. let z = h .deeper e x (a .left) (a .begun) in let y = entry-deep e in omega (arith, a .depth))
+          (λ a. omega (arith, a .depth, a .deeper))
+          (left-case e x k b)
+
+      reached-after : (j e x : ℕ) → Left (act s i m) e x → Unreached (stageOf (act s i m) j) x → ⊥
+      reached-after j e x k =
+          stage-after s i m lt (λ j st. Unreached st x → ⊥)
+          (λ u. ⊎-elim (λ v. old i v) (λ v. ⊎-elim (λ a. let z = h .higher e x a in let y = in-use e (h .within e x a) in omega arith)
+          (λ a. let y = in-use e (a .1) in omega (arith, a .0)) (was-left e x k)) (new-pages s _ (stageOf s i) (d .starts) u))
+          (λ j n. old j)
+          j
+        where
+          old : (j : ℕ) → Unreached (stageOf s j) x → ⊥
+          old j u = ⊎-elim (λ a. h .reached j e x a u) (λ a. named j e x (sym (a .0)) u) (was-left e x k)
+
+      act-rising : Rising (act s i m)
+      act-rising =
+          record {
+            within = λ e x k. ⊎-elim (λ a. h .within e x a) (λ a. a .1) (was-left e x k);
+            higher = higher-after;
+            deeper = deeper-after;
+            reached = reached-after;
+          }
 
 tick-rising : (s : State) → Rising s → Rising (tick s)
 unfolding stageOf rowOf
@@ -297,7 +296,7 @@ tick-rising s h = record { within = h .within; higher = h .higher; deeper = h .d
 step-rising : (ops : List Op) (s : State) (i : ℕ) → Good ops s → Coherent ops s → Settled ops s → Rising s → Rising (step ops s i)
 step-rising ops s i good coherent settled h =
     step-case Rising ops s i (tick-rising s h)
-    (λ lt e. act-rising ops s i _ lt good coherent (i-does ops s i good coherent) (i-writes ops s i good coherent settled) h)
+    (λ lt e. act-rising ops s i _ good coherent (i-does ops s i good coherent) (i-writes ops s i good coherent settled) lt h)
 
 start-rising : (f : File) (m : ℕ) → Rising (start f m)
 unfolding start left

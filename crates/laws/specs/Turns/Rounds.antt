@@ -63,7 +63,7 @@ all-longest g [] = omega arith
 all-longest g (op ∷ ops) = omega (arith, sharp-longest g (op .kind), all-longest g ops)
 
 -- a stage that is not other than finished is finished
-done-or : (st : Stage) → ((st ≡ Done → ⊥) → ⊥) → st ≡ Done
+pub done-or : (st : Stage) → ((st ≡ Done → ⊥) → ⊥) → st ≡ Done
 unfolding idle
 done-or NotBegun h = absurd (h (moves-unfinished [] NotBegun refl))
 done-or (ReadPage x) h = absurd (h (moves-unfinished [] (ReadPage x) refl))

@@ -126,7 +126,7 @@ module _ (ops : List Op) (s : State) (i : ℕ) (slot : Table)
               (λ y c n q v. let w = ap (λ p. pageAt (s .file) p .depth) (named e y c n q) in omega arith)
               ∙ h .turn e x (a .left) (a .begun)))
               (λ a. rw (a .depth, a .turn) (slot-own s (stageOf s i) slot e x _ _ (a .stage .2)))
-              (left-case ops s i m lt good coherent (i-does ops s i good coherent) (i-writes ops s i good coherent settled) r e x k b);
+              (left-case ops s i m good coherent (i-does ops s i good coherent) (i-writes ops s i good coherent settled) lt r e x k b);
         }
 
     pub step-slots : Slots (slotAfter s (stageOf s i) slot) (step ops s i)

@@ -1,5 +1,5 @@
 -- No operation uses more turns than its kind can, under any list: what it has used is, after every turn, as its stage says.
-use Prim.Native.Nat.{ℕ, zero, suc, _+_, _-_, _*_, _<_, _≤_}
+use Prim.Native.Nat.{ℕ, zero, suc, _+_, _*_, _<_, _≤_}
 use mathlib.Core.Path.{_≡_, refl}
 use mathlib.Core.Logic.{by-cases}
 use mathlib.Core.List.{List}
@@ -45,7 +45,7 @@ use Rattle.laws.specs.Turns.Whole.{Whole, whole, end-whole}
 use Rattle.laws.specs.Turns.Fields.{cut, cut-run}
 use Rattle.laws.specs.Turns.Sizes.{run-shaped}
 use Rattle.laws.specs.Turns.Writes.{Writes, i-writes}
-use Rattle.laws.specs.Turns.Rising.{Rising, rising, entry-deep, entry-deeper}
+use Rattle.laws.specs.Turns.Rising.{entry-deep, entry-deeper}
 use Rattle.laws.specs.Turns.Interval.{start-stays, goes-in}
 use Rattle.laws.specs.Turns.Spent.{depthOf, Read, top, SpentTask, SpentPart, Spent, search-within, spent-after, decide-top, new-top, entry-top, stage-top}
 
@@ -181,19 +181,18 @@ AllSpent ops s = (i : ℕ) → Spent (s .file) (getD ops i noOp) (rowOf s i .use
 act-spent
     : (j : Job) (s : State) (i : ℕ)
     → Whole j s
-    → Rising s
     → i < length (s .rows)
     → idle (s .locks) (stageOf s i) ≡ false
     → AllSpent (j .ops) s
     → AllSpent (j .ops) (act s i (turn s (getD (j .ops) i noOp) (stageOf s i)))
 unfolding stageOf depthOf entryOf homeOf
-act-spent j s i w r lt e h =
+act-spent j s i w lt e h =
     row-after s i m lt (λ k row. Spent (fileAfter m (s .file)) (getD (j .ops) k noOp) (row .used) (row .stage))
     (turn-spent (j .ops) s _ (w .good) (w .coherent) _ (stageOf s i) _ e (w .good .fine i) (w .coherent .work i) (w .codes .code i lt) (h i) .after)
     (λ k n.
     spent-after (s .file) m (getD (j .ops) k noOp)
-    (entry-deep (j .ops) s i m lt (w .good) (w .coherent) does writes r _)
-    (entry-deeper (j .ops) s i m lt (w .good) (w .coherent) does writes r _)
+    (entry-deep (j .ops) s i m (w .good) (w .coherent) does writes _)
+    (entry-deeper (j .ops) s i m (w .good) (w .coherent) does writes _)
     _
     (stageOf s k)
     (other-page (j .ops) s i k m (w .good) (i-legal (j .ops) s i (w .good) e .page) n)
@@ -220,7 +219,7 @@ all-spent j ok (suc t) l =
     let h = all-spent j ok t (omega arith) in
     rw (stateAt-suc j t l)
     (step-case (AllSpent (j .ops)) (j .ops) (stateAt j t) (who j t) h
-    (λ lt e. act-spent j (stateAt j t) (who j t) w (rising j ok t (omega arith)) lt e h))
+    (λ lt e. act-spent j (stateAt j t) (who j t) w lt e h))
 
 module _ (j : Job) (ok : FileOk (j .file)) (i : ℕ) where
   w : Whole j (run j)

@@ -52,7 +52,7 @@ owned-of : (f : File) → FileOk f → (x : ℕ) → PageNo f x → Owned f x
 owned-of f ok x p k i =
     ok .owner _ x (index-in f (ok .fit) k) p (in-begins (f .g) (pageAt f x) k (pages-of f ok x .deep) (fit-32 f (ok .fit)) i)
 
-start-whole : (j : Job) → FileOk (j .file) → Whole j (start (j .file) (length (j .ops)))
+pub start-whole : (j : Job) → FileOk (j .file) → Whole j (start (j .file) (length (j .ops)))
 unfolding start stageOf rowOf
 start-whole j ok =
     record {
