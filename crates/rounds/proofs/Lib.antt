@@ -1,0 +1,2 @@
+-- rounds on the lent table are the machine's
+pub mod Follows
