@@ -1,0 +1,2 @@
+-- what the walks of the rounds share
+pub mod Passing
