@@ -1,0 +1,2 @@
+-- what the walks over the lent table share
+pub mod Giving
