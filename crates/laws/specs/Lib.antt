@@ -7,7 +7,7 @@ pub mod Turns
 -- the bytes: accepted jobs are proper, and are read and written back exactly
 pub mod Codec
 -- the two together: the result and its charge file read back, demand 3 for every accepted job, calls that rise in every page, the pages told with
--- the answers, how many turns an operation uses, how many rounds finish every operation, room in the result buffer
+-- the answers, how many turns an operation uses, how many rounds finish every operation, turns dealt, room in the result buffer
 pub mod ReadBack
 pub mod Demand3
 pub mod InOrder
@@ -32,3 +32,6 @@ pub mod RefutesTurns
 -- the same for rounds
 pub mod WeighedRounds
 pub mod RefutesRounds
+-- the same for turns dealt
+pub mod WeighedDealt
+pub mod RefutesDealt

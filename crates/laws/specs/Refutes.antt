@@ -141,7 +141,7 @@ says-search Search e = refl
 says-search Insert e = cc
 says-search Delete e = cc
 
-says-waits : (s : State) (i : ℕ) → waits s i ≡ true → Waits s i
+pub says-waits : (s : State) (i : ℕ) → waits s i ≡ true → Waits s i
 unfolding waits
 says-waits s i e = record { unfinished = undone (and-left _ _ e); idles = and-right (not (isDone (stageOf s i))) _ e }
 

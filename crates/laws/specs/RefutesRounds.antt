@@ -25,7 +25,7 @@ says-same [] (y ∷ ys) e = absurd (false≢true e)
 says-same (x ∷ xs) [] e = absurd (false≢true e)
 says-same (x ∷ xs) (y ∷ ys) e = rw (eqb-true x y (and-left (eqb x y) _ e), says-same xs ys (and-right (eqb x y) _ e))
 
-lacksNothing-true : (j : Job) (r : Result) → Complete j r → lacksNothing j r ≡ true
+pub lacksNothing-true : (j : Job) (r : Result) → Complete j r → lacksNothing j r ≡ true
 unfolding lacksNothing sameBytes
 lacksNothing-true j r c =
     is-and (is-and (every-true _ _ (λ i l. is-not (λ z. c .answered i l (eqb-true _ _ z)))) (eq-eqb _ _ (c .ended)))

@@ -127,6 +127,10 @@ all-done : (s : State) → allDone s ≡ true → (i : ℕ) → stageOf s i ≡ 
 unfolding allDone stageOf rowOf isDone
 all-done s e i = done-true _ (each-or {P = λ (r : Row). isDone (r .stage) ≡ true} (s .rows) i gone refl (allOf-true _ (s .rows) e))
 
+-- the turn that operation k gets in the state s, if any
+abbrev pub turnFor : ℕ → State → List ℕ
+turnFor k s = if (idle (s .locks) (stageOf s k)) [] (k ∷ [])
+
 module _ (ops : List Op) where
   -- in a round that deals nothing every operation asked is finished or waits
   round-none : (n i : ℕ) (s : State) → length (roundFrom ops n i s) ≡ 0 → (k : ℕ) → i ≤ k → k < i + n → idle (s .locks) (stageOf s k) ≡ true
@@ -163,22 +167,14 @@ module _ (ops : List Op) where
   no-round s e = round-over (length ops) 0 s (all-done s e)
 
   -- For a loop: a round of one operation more, and one round more, stand behind what was dealt before.
-  round-last
-      : (n i k : ℕ) (s : State)
-      → k ≡ i + n
-      → roundFrom ops (suc n) i s
-      ≡ roundFrom ops n i s ++ (let s' = steps ops s (roundFrom ops n i s) in if (idle (s' .locks) (stageOf s' k)) [] (k ∷ []))
+  round-last : (n i k : ℕ) (s : State) → k ≡ i + n → roundFrom ops (suc n) i s ≡ roundFrom ops n i s ++ turnFor k (steps ops s (roundFrom ops n i s))
   unfolding roundFrom steps
   round-last zero i k s e = let z : k ≡ i = omega arith in rw z
   round-last (suc n) i k s e =
-      if-both (λ (us ts : List ℕ). us ≡ ts ++ (let s' = steps ops s ts in if (idle (s' .locks) (stageOf s' k)) [] (k ∷ [])))
-      (λ w. round-last n (suc i) k s (omega arith))
+      if-both (λ (us ts : List ℕ). us ≡ ts ++ turnFor k (steps ops s ts)) (λ w. round-last n (suc i) k s (omega arith))
       (λ w. ap (λ (ts : List ℕ). i ∷ ts) (round-last n (suc i) k (step ops s i) (omega arith)))
 
-  pub round-next
-      : (k : ℕ) (s : State)
-      → roundFrom ops (suc k) 0 s
-      ≡ roundFrom ops k 0 s ++ (let s' = steps ops s (roundFrom ops k 0 s) in if (idle (s' .locks) (stageOf s' k)) [] (k ∷ []))
+  pub round-next : (k : ℕ) (s : State) → roundFrom ops (suc k) 0 s ≡ roundFrom ops k 0 s ++ turnFor k (steps ops s (roundFrom ops k 0 s))
   round-next k s = round-last k 0 k s (omega arith)
 
   pub rounds-next : (n : ℕ) (s : State) → rounds (suc n) ops s ≡ rounds n ops s ++ round ops (steps ops s (rounds n ops s))
@@ -207,12 +203,7 @@ module _ (ops : List Op) where
   rounds-more n m s l e = let z : n + (m - n) ≡ m = omega arith in rw z at (rounds-for n (m - n) s e)
 
   -- as many rounds as turns remain finish all
-  rounds-done
-      : (n : ℕ) (s : State)
-      → Sound ops s
-      → remaining ops s ≤ n
-      → (i : ℕ)
-      → stageOf (steps ops s (rounds n ops s)) i ≡ Done
+  rounds-done : (n : ℕ) (s : State) → Sound ops s → remaining ops s ≤ n → (i : ℕ) → stageOf (steps ops s (rounds n ops s)) i ≡ Done
   unfolding rounds round steps
   rounds-done zero s h l i =
       done-or _

@@ -29,7 +29,7 @@ use Rattle.spec.specs.Job.{noOp}
 use Rattle.spec.specs.State.{State, same, EntryWrite, Move, blank, gone, go}
 use Rattle.spec.specs.Turn.{homeOf, entryOf, recOf, planOf, newCount, begin, looked, reread, decided, written, verified, oldWritten, heldTurn, entriesFrom, splitTurn, turn}
 use Rattle.spec.specs.Proper.{Fit}
-use Rattle.spec.specs.Run.{directoryAfter, fileAfter, rowOf, stageOf, idle, tick, act, step, start}
+use Rattle.spec.specs.Run.{directoryAfter, fileAfter, rowOf, stageOf, idle, act, step, start}
 use Rattle.laws.specs.Tools.{if-case, if-true, if-false}
 use Rattle.laws.specs.Turns.Sums.{sumTo, sum-most, sum-le, sum-at}
 use Rattle.laws.specs.Turns.Count.{count-full}
@@ -42,9 +42,10 @@ use Rattle.laws.specs.Turns.Coherent.{i-does}
 use Rattle.laws.specs.Turns.Settled.{Settled}
 use Rattle.laws.specs.Turns.Writes.{WritesEntry, noEntry, oneEntry, Writes, i-writes}
 use Rattle.laws.specs.Turns.Rising.{entry-deep, entry-deeper}
+use Rattle.laws.specs.Turns.Rounds.{step-moves}
 
 -- the turns that an operation at this stage has left, where its entry stays as it is, but for those that write entries
-unfoldable pub taskLeft : Task → ℕ
+unfoldable taskLeft : Task → ℕ
 taskLeft Verify = 4
 taskLeft (Release y) = 6
 taskLeft Decide = 3
@@ -52,12 +53,12 @@ taskLeft WritePage = 2
 taskLeft WriteOld = 2
 taskLeft Unlock = 1
 
-unfoldable pub partLeft : ℕ → Part → ℕ
+unfoldable partLeft : ℕ → Part → ℕ
 partLeft n (WriteNew i) = n + 4 - i
 partLeft n (WriteEntry j) = 3
 partLeft n UnlockNew = 3
 
-unfoldable pub stageLeft : Stage → ℕ
+unfoldable stageLeft : Stage → ℕ
 stageLeft NotBegun = 6
 stageLeft (ReadPage x) = 2
 stageLeft (Reread x t) = 1
@@ -67,7 +68,7 @@ stageLeft (Split x b n q) = partLeft n q
 stageLeft Done = 0
 
 -- the page that the operation has read in its entry, where it is to look again whether the entry names it
-unfoldable pub taskRead : ℕ → Task → Option ℕ
+unfoldable taskRead : ℕ → Task → Option ℕ
 taskRead x Verify = some x
 taskRead x (Release y) = some y
 taskRead x Decide = none
@@ -75,7 +76,7 @@ taskRead x WritePage = none
 taskRead x WriteOld = none
 taskRead x Unlock = none
 
-unfoldable pub pageRead : Stage → Option ℕ
+unfoldable pageRead : Stage → Option ℕ
 pageRead NotBegun = none
 pageRead (ReadPage x) = some x
 pageRead (Reread x t) = some x
@@ -85,21 +86,22 @@ pageRead (Split x b n q) = none
 pageRead Done = none
 
 -- three turns more, where the entry names another page by now
-unfoldable pub again : ℕ → Option ℕ → ℕ
+unfoldable again : ℕ → Option ℕ → ℕ
 again y none = 0
 again y (some x) = if (eqb y x) 0 3
 
 -- how often entry e can still change, since the depth of the page that it names rises each time
-unfoldable pub changesLeft : File → ℕ → ℕ
+unfoldable changesLeft : File → ℕ → ℕ
 changesLeft f e = f .g - pageAt f (entryAt f e) .depth
 
-unfoldable pub opLeft : File → Op → Stage → ℕ
+-- what is left of one operation at this stage; of operation i; and of all, with the file
+unfoldable opLeft : File → Op → Stage → ℕ
 opLeft f op st = stageLeft st + (again (entryOf f op) (pageRead st) + 3 * changesLeft f (homeOf f op))
 
-abbrev pub rowLeft : List Op → State → ℕ → ℕ
+abbrev rowLeft : List Op → State → ℕ → ℕ
 rowLeft ops s i = opLeft (s .file) (getD ops i noOp) (stageOf s i)
 
-unfoldable pub remaining : List Op → State → ℕ
+pub remaining : List Op → State → ℕ
 remaining ops s =
     sumTo (length ops) (rowLeft ops s)
     + sumTo (2 ^ s .file .g) (changesLeft (s .file))
@@ -214,7 +216,7 @@ entry-written f st o fit noEntry = inl refl
 entry-written f st o fit (oneEntry {x} {b} {n} {j} {y} at l u d) =
     inr (j, l, rw (getD-set-same (f .directory) j y 0 (omega (arith, fit .size)), at) u, refl)
 
--- what a turn does to what the file has left, and to what any operation has left at the stage that it is in
+-- what a turn does to what is left of the file, and of any operation at the stage that it is in
 module _ (ops : List Op) (s : State) (i : ℕ) (m : Move)
     (good : Good ops s)
     (coherent : Coherent ops s)
@@ -289,9 +291,8 @@ pub step-remaining
     → length (s .rows) ≡ length ops
     → idle (s .locks) (stageOf s i) ≡ false
     → remaining ops (step ops s i) < remaining ops s
-unfolding step
 step-remaining ops s i good coherent settled rows e =
-    rw (if-false (tick s) (act s i (turn s (getD ops i noOp) (stageOf s i))) e)
+    rw (step-moves ops s i e)
     (act-remaining ops s i _ good coherent (i-does ops s i good coherent) (i-writes ops s i good coherent settled) rows (moves-row s i e)
     (turn-paid s (getD ops i noOp) (stageOf s i) (good .fine i) e))
 

@@ -79,7 +79,7 @@ module _ (ops : List Op) where
   moveOf s i = turn s (getD ops i noOp) (stageOf s i)
 
   -- a turn that is used
-  step-moves : (s : State) (i : ℕ) → idle (s .locks) (stageOf s i) ≡ false → step ops s i ≡ act s i (moveOf s i)
+  pub step-moves : (s : State) (i : ℕ) → idle (s .locks) (stageOf s i) ≡ false → step ops s i ≡ act s i (moveOf s i)
   unfolding step
   step-moves s i e = if-false _ _ e
 
