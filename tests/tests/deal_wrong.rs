@@ -302,7 +302,7 @@ fn a_list_that_stops_at_the_last_answer() {
 #[test]
 fn the_right_list_is_the_only_one() {
     let (mut jobs, mut told) = (0, [0; WRONG.len()]);
-    let whole = few_seeds(4, |seed| {
+    let whole = few_seeds(12, |seed| {
         let random = &mut Random::new(seed, "many, and wrong dealers");
         let many = DEPTHS.map(|depth| contended_by(random, depth, 2, 24));
         let few = contended_of_each(seed, "few, and wrong dealers");
