@@ -46,7 +46,7 @@ pub fn mostly_small_job(random: &mut Random, seed: u64) -> Job {
 /// every sixteenth seed, and else with few operations.
 pub fn mostly_small_job_without_turns(random: &mut Random, seed: u64) -> Job {
     let mut job = job_without_turns(random);
-    if seed % 16 != 0 {
+    if !seed.is_multiple_of(16) {
         job.operations.truncate(random.below(8));
     }
     job

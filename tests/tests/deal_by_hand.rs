@@ -159,7 +159,7 @@ fn numbers_over_255() {
 fn the_numbers() {
     assert_eq!((MOST_TURNS, MORE), (10_238, 20_476));
     assert_eq!(MORE, 2 * MOST_TURNS);
-    assert!(MOST_TURNS <= MAX_TURNS);
+    assert_eq!(MAX_TURNS.checked_sub(MOST_TURNS), Some(6_146));
 }
 
 /// The examples without their turns: how many turns are dealt, in how many rounds.

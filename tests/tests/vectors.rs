@@ -1,6 +1,6 @@
-//! Every stored job comes to what is stored beside it, to the byte, and prints its text; every stored file is tidied to what is stored beside it, and
-//! every job without turns dealt those that are. They came with the documents and were not made here: `marked-` are the marked jobs and `full-` the largest; others are named by their fault, by their
-//! refusal, or by a number only.
+//! Every stored job comes to what is stored beside it, to the byte, and prints its text; every stored file is tidied, and every stored job without turns
+//! is dealt some, as is stored beside it. They came with the documents and were not made here: `marked-` are the marked jobs and `full-` the largest;
+//! others are named by their fault, by their refusal, or by a number only.
 
 use std::collections::BTreeMap;
 

@@ -194,42 +194,44 @@ fn a_lower_one_waits_for_a_higher() -> Scene {
         delete(5),
         insert(1, 40),
     ];
-    let rounds: [&[usize]; 18] = [
-        &[0, 1, 2, 3, 4],
-        // 0 locks page 1, verifies, decides, writes page 2, entries 2 and 3, unlocks page 2, writes page 1
-        &[0, 0, 0, 0, 0, 0, 0, 0],
-        // 0 unlocks page 1, 1 locks it; 1 verifies; 1 unlocks it, 2 locks it
-        &[0, 1],
-        &[1],
-        &[1, 2],
-        // 1 locks page 2; the entry of 2 names page 2
-        &[1, 2],
-        // 1 verifies, 2 unlocks page 1, 3 locks it
-        &[1, 2, 3],
-        // 1 decides; 2 waits for page 2; the entry of 3 names page 2
-        &[1, 3],
-        // 1 writes page 3, 3 unlocks page 1, 4 locks it
-        &[1, 3, 4],
-        // 1 writes entry 3, and so the entry of 4 names page 3; 3 waits for page 2
-        &[1, 4],
-        // 1 unlocks page 3, 4 unlocks page 1
-        &[1, 4],
-        // 1 writes page 2, 4 locks page 3
-        &[1, 4],
-        // 1 unlocks page 2, 2 locks it, 4 verifies
-        &[1, 2, 4],
-        // the entry of 2 names page 3; 4 decides
-        &[2, 4],
-        // 2 unlocks page 2, 3 locks it, 4 writes page 3
-        &[2, 3, 4],
-        // 2 waits; 3 verifies; 4 unlocks page 3
-        &[3, 4],
-        // 2 locks page 3, verifies, decides; 3 decides, writes page 2, unlocks it
-        &[2, 3, 2, 3, 2, 3],
-        // 2 unlocks page 3
-        &[2],
-    ];
     let file = file(2, 4, &[(0, 0, &[(3, 50), (7, 60)])]);
     let name = "a lower one waits for a higher";
-    scene(name, &file, &operations, &rounds)
+    scene(name, &file, &operations, &A_LOWER_ONE_WAITS)
 }
+
+/// The list of the last scene, round by round.
+const A_LOWER_ONE_WAITS: [&[usize]; 18] = [
+    &[0, 1, 2, 3, 4],
+    // 0 locks page 1, verifies, decides, writes page 2, entries 2 and 3, unlocks page 2, writes page 1
+    &[0, 0, 0, 0, 0, 0, 0, 0],
+    // 0 unlocks page 1, 1 locks it; 1 verifies; 1 unlocks it, 2 locks it
+    &[0, 1],
+    &[1],
+    &[1, 2],
+    // 1 locks page 2; the entry of 2 names page 2
+    &[1, 2],
+    // 1 verifies, 2 unlocks page 1, 3 locks it
+    &[1, 2, 3],
+    // 1 decides; 2 waits for page 2; the entry of 3 names page 2
+    &[1, 3],
+    // 1 writes page 3, 3 unlocks page 1, 4 locks it
+    &[1, 3, 4],
+    // 1 writes entry 3, and so the entry of 4 names page 3; 3 waits for page 2
+    &[1, 4],
+    // 1 unlocks page 3, 4 unlocks page 1
+    &[1, 4],
+    // 1 writes page 2, 4 locks page 3
+    &[1, 4],
+    // 1 unlocks page 2, 2 locks it, 4 verifies
+    &[1, 2, 4],
+    // the entry of 2 names page 3; 4 decides
+    &[2, 4],
+    // 2 unlocks page 2, 3 locks it, 4 writes page 3
+    &[2, 3, 4],
+    // 2 waits; 3 verifies; 4 unlocks page 3
+    &[3, 4],
+    // 2 locks page 3, verifies, decides; 3 decides, writes page 2, unlocks it
+    &[2, 3, 2, 3, 2, 3],
+    // 2 unlocks page 3
+    &[2],
+];
