@@ -33,6 +33,19 @@ pub fn least_lent(job: &[u8], operations: usize) -> Room {
     (job.len() + MORE, operations, WORKING_MEMORY)
 }
 
+/// How many turns m operations at depth g can use together, under any list: no more
+/// than that has a list of which every turn is used, and at the limits it is
+/// [`MOST_TURNS`].
+///
+/// An operation uses six turns at most, and three more each time that its entry has
+/// changed, which is g times at most. The rest is for splits. There are 2^g - 1 new
+/// pages at most, each is written once, and each split has a turn that unlocks its
+/// own. And each of the 2^g entries is changed g times at most.
+pub fn at_most(operations: usize, depth: u32) -> usize {
+    let (g, entries) = (depth as usize, 1 << depth);
+    operations * (6 + 3 * g) + 2 * (entries - 1) + g * entries
+}
+
 /// The job's bytes with a list, or number and place of a refusal: "21 (turns
 /// present, at their count) after the job's own refusals, then 11, where the
 /// buffer is under the job's length and 20,476 bytes more (place 0), or the table

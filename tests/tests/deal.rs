@@ -9,7 +9,7 @@ mod dealt;
 use chargefile_tests::answer::{Answer, Code, CODES};
 use chargefile_tests::bounds::{Held, DEPTHS};
 use chargefile_tests::damage::{fault, scribble, NUMBERS};
-use chargefile_tests::deal::{least_lent, list, Room, MOST_TURNS};
+use chargefile_tests::deal::{at_most, least_lent, list, Room, MOST_TURNS};
 use chargefile_tests::examples::examples;
 use chargefile_tests::explain::explain;
 use chargefile_tests::job::{Job, Kind, MAX_CAPACITY, MAX_OPERATIONS};
@@ -113,7 +113,8 @@ fn is_dealt(job: &Job, met: &mut Met) {
     the_same_job(&job.to_bytes(), &bytes);
     assert_eq!(check(&bytes), None);
     let dealt = Job::from_bytes(&bytes);
-    assert!(dealt.turns.len() <= MOST_TURNS, "{}", dealt.turns.len());
+    let most = at_most(job.operations.len(), job.file.depth);
+    assert!(dealt.turns.len() <= most && most <= MOST_TURNS);
     let run = judged(job, &dealt.turns).unwrap_or_else(|wrong| panic!("{wrong:?} in {job:?}"));
     assert_eq!((run.waits, run.idle), (0, 0));
     let contents = its_result(&dealt);

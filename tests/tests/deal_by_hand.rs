@@ -7,9 +7,9 @@ mod dealt;
 use chargefile_tests::by_hand::{
     self, insert, search, ABSENT, ALREADY_THERE, DELETED, DIFFERS, FOUND, NONE, NO_DEPTH, STORED,
 };
-use chargefile_tests::deal::{least_lent, list, MORE, MOST_TURNS};
+use chargefile_tests::deal::{at_most, least_lent, list, MORE, MOST_TURNS};
 use chargefile_tests::examples::examples;
-use chargefile_tests::job::{Job, MAX_TURNS};
+use chargefile_tests::job::{Job, MAX_OPERATIONS, MAX_TURNS};
 use chargefile_tests::make_rounds::hotel_of_forty;
 use chargefile_tests::{check, deal, report, Outcome};
 use dealt::scenes::{scene_of, scenes};
@@ -159,6 +159,8 @@ fn numbers_over_255() {
 fn the_numbers() {
     assert_eq!((MOST_TURNS, MORE), (10_238, 20_476));
     assert_eq!(MORE, 2 * MOST_TURNS);
+    assert_eq!(at_most(MAX_OPERATIONS, 8), 256 * 30 + 255 + 255 + 2_048);
+    assert_eq!(at_most(MAX_OPERATIONS, 8), MOST_TURNS);
     assert_eq!(MAX_TURNS.checked_sub(MOST_TURNS), Some(6_146));
 }
 
