@@ -20,6 +20,14 @@ chargefile_outcome cpp_tidy(const uint8_t *file, size_t file_length, uint64_t de
     return chargefile_tidy(file, file_length, depth, out, out_length);
 }
 
+chargefile_outcome cpp_deal(const uint8_t *job, size_t job_length, uint8_t *out, size_t out_length,
+                            chargefile_row *rows, size_t rows_length, uint8_t *memory,
+                            size_t memory_length)
+{
+    return chargefile_deal(job, job_length, out, out_length, rows, rows_length, memory,
+                           memory_length);
+}
+
 size_t cpp_result_size(const uint8_t *job, size_t job_length)
 {
     return chargefile_result_size(job, job_length);

@@ -14,6 +14,9 @@ chargefile_outcome cpp_run(const uint8_t *job, size_t job_length, uint8_t *resul
                            uint8_t *memory, size_t memory_length);
 chargefile_outcome cpp_tidy(const uint8_t *file, size_t file_length, uint64_t depth, uint8_t *out,
                             size_t out_length);
+chargefile_outcome cpp_deal(const uint8_t *job, size_t job_length, uint8_t *out, size_t out_length,
+                            chargefile_row *rows, size_t rows_length, uint8_t *memory,
+                            size_t memory_length);
 size_t cpp_result_size(const uint8_t *job, size_t job_length);
 uint32_t cpp_answer_page(const uint8_t *answer);
 size_t cpp_row_size(void);

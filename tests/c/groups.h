@@ -19,5 +19,7 @@ void misled_tests(void);     /* the turns that a search and a delete use at most
 void page_256_tests(void);   /* the last page there can be, and splits that lead to it */
 void tidied_tests(void);     /* what tidying writes */
 void not_tidied_tests(void); /* what tidying refuses */
+void dealt_tests(void);      /* the turns that are dealt for a job */
+void not_dealt_tests(void);  /* for which jobs none are dealt */
 
 #endif

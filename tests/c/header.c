@@ -90,6 +90,15 @@ static void sizes(void)
     }
 }
 
+/* "the job's length and 20,476 bytes more": a job of the largest kind, which has no turns yet */
+static void sizes_for_dealing(void)
+{
+    counts c = {8, 8, 256, 1, 256, 0};
+    EXPECT_EQUAL(CHARGEFILE_DEALT_MORE, 20476);
+    EXPECT_EQUAL(CHARGEFILE_DEAL_MAX, layout_of(c).total + 20476);
+    EXPECT_EQUAL(CHARGEFILE_DEAL_MAX, 40988);
+}
+
 static void result_size_of_a_job(void)
 {
     static job j;
@@ -215,6 +224,7 @@ void header_tests(void)
     test("header: the limits", limits);
     test("header: the largest job, file, result and table", largest_sizes);
     test("header: sizes of files, jobs and results", sizes);
+    test("header: the output of dealing", sizes_for_dealing);
     test("header: the result buffer of a job", result_size_of_a_job);
     test("header: codes and kinds", codes_and_kinds);
     test("header: refusal numbers", refusal_numbers);

@@ -8,14 +8,19 @@ enum { RESULT_BYTE = 0xA5, ROWS_BYTE = 0x5A, MEMORY_BYTE = 0xC3 };
 
 lent set;
 
-void lend(const job *j)
+void lend_so_much(size_t result, size_t rows, size_t memory)
 {
     memset(set.result, RESULT_BYTE, sizeof set.result);
     memset(set.rows, ROWS_BYTE, sizeof set.rows);
     memset(set.memory, MEMORY_BYTE, sizeof set.memory);
-    set.result_length = result_room(counts_of(j));
-    set.rows_length = counts_of(j).operations;
-    set.memory_length = 24576;
+    set.result_length = result;
+    set.rows_length = rows;
+    set.memory_length = memory;
+}
+
+void lend(const job *j)
+{
+    lend_so_much(result_room(counts_of(j)), counts_of(j).operations, 24576);
 }
 
 /* The job as it was handed over: no call may write to it. */

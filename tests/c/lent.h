@@ -1,6 +1,7 @@
 /*
- * What a run is lent, filled with patterns beforehand. The rooms are larger than what is lent of
- * them, so that a write past a lent length is seen as well.
+ * What a run or dealing is lent, filled with patterns beforehand. The rooms are larger than what is
+ * lent of them, so that a write past a lent length is seen as well. The output of dealing goes to
+ * where the result of a run goes.
  */
 #ifndef LENT_H
 #define LENT_H
@@ -8,7 +9,7 @@
 #include "chargefile.h"
 #include "jobs.h"
 
-enum { RESULT_ROOM = 21100, ROWS_ROOM = 300, MEMORY_ROOM = 25000 };
+enum { RESULT_ROOM = 41100, ROWS_ROOM = 300, MEMORY_ROOM = 25000 };
 
 typedef struct lent {
     uint8_t result[RESULT_ROOM];
@@ -19,6 +20,8 @@ typedef struct lent {
 
 /* The one lent set: each lend fills it anew. */
 extern lent set;
+
+void lend_so_much(size_t result, size_t rows, size_t memory);
 
 /* The least that this job's run may be lent. */
 void lend(const job *j);

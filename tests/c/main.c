@@ -21,5 +21,7 @@ int main(void)
     page_256_tests();
     tidied_tests();
     not_tidied_tests();
+    dealt_tests();
+    not_dealt_tests();
     return all_counted();
 }

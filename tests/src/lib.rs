@@ -14,6 +14,7 @@
 //! - [`result::answer_bytes`]: the bytes of its answers;
 //! - [`report`]: what `chargelog` prints;
 //! - [`tidy`]: the bytes of a tidied charge file, or the refusal;
+//! - [`deal`]: the bytes of a job with turns dealt for it, or the refusal;
 //! - [`page::Page`] and [`split`]: find, add, remove and split a page;
 //! - [`make`], [`damage`], [`damage_pages`], [`damage_records`] and [`seeds`]:
 //!   random jobs, damaged jobs, and seeds that can be repeated;
@@ -42,6 +43,7 @@ pub mod check;
 pub mod damage;
 pub mod damage_pages;
 pub mod damage_records;
+pub mod deal;
 pub mod examples;
 pub mod examples_parts;
 pub mod explain;
@@ -74,6 +76,7 @@ pub mod turn;
 pub mod vectors;
 
 pub use check::check;
+pub use deal::deal;
 pub use report::report;
 pub use run::{run, Outcome};
 pub use tidy::tidy;

@@ -42,6 +42,16 @@ pub fn mostly_small_job(random: &mut Random, seed: u64) -> Job {
     }
 }
 
+/// A job without turns, for tests that have turns dealt for it: of any size for
+/// every sixteenth seed, and else with few operations.
+pub fn mostly_small_job_without_turns(random: &mut Random, seed: u64) -> Job {
+    let mut job = job_without_turns(random);
+    if !seed.is_multiple_of(16) {
+        job.operations.truncate(random.below(8));
+    }
+    job
+}
+
 fn job_without_turns(random: &mut Random) -> Job {
     let mut file = empty_file(random);
     let calls = pool(random, file.depth);

@@ -10,7 +10,7 @@ use crate::check;
 use crate::examples::{examples, Example};
 use crate::examples_parts::{filled, parted_file};
 use crate::file::ChargeFile;
-use crate::job::{Job, Operation, MAX_CAPACITY, MAX_PAGES};
+use crate::job::{Job, Operation, MAX_CAPACITY, MAX_DEPTH, MAX_PAGES};
 use crate::key;
 use crate::make_most_turns::{misled, wide, Home};
 use crate::random::Random;
@@ -120,6 +120,24 @@ pub fn contended_of_each(seed: u64, name: &str) -> Vec<Job> {
     };
     let of_depth = |depth| (1..=MAX_CAPACITY).map(move |capacity| of(depth, capacity));
     DEPTHS.into_iter().flat_map(of_depth).collect()
+}
+
+/// As many inserts as there can be, one for each entry of the largest directory, by
+/// rising entry. They all begin at one page, which is full of calls of the last
+/// entry. So pages split while others are under way to them, over and over, until
+/// each of them is in a page with few others, or there is no page left.
+pub fn one_for_each_entry(capacity: usize) -> Job {
+    let depth = MAX_DEPTH as u32;
+    let last = (1 << depth) - 1;
+    let held: Vec<(u32, u32)> = (0..capacity as u32)
+        .map(|i| (key::call_with(last, depth, 1_000 + i), 50))
+        .collect();
+    let own = |entry| insert(key::call_with(entry, depth, 7), 60);
+    Job {
+        file: filled(ChargeFile::empty(depth, capacity, MAX_PAGES), &held),
+        operations: (0..=last).map(own).collect(),
+        turns: Vec::new(),
+    }
 }
 
 /// A random job without turns whose operations all go for one page, or for the pages

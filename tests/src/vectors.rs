@@ -2,14 +2,15 @@
 //! it. They came with the documents and were not made here.
 //!
 //! One case is all files of one name, and the suffix says what each is. There
-//! are two kinds, each in folders of its own: jobs to be run, and charge files
-//! to be tidied. Both have `room`, what is lent, as text (without it, enough),
-//! and `out`, the whole output, or in its place `refused`, number and place as
-//! text.
+//! are three kinds, each in folders of its own: jobs to be run, charge files to
+//! be tidied, and jobs to be dealt turns. All have `room`, what is lent, as text
+//! (without it, enough), and `out`, the whole output, or in its place `refused`,
+//! number and place as text.
 //!
-//! - Of a job: `job`, and `print`, what `chargelog` prints, which lends enough
-//!   itself.
+//! - Of a job to be run: `job`, and `print`, what `chargelog` prints, which lends
+//!   enough itself.
 //! - Of a file to be tidied: `file`, and `depth`, the wanted depth as text.
+//! - Of a job to be dealt turns: `job`.
 
 use std::collections::{BTreeMap, BTreeSet};
 use std::ffi::OsStr;
@@ -23,18 +24,47 @@ use crate::run::Outcome;
 /// How many jobs there are: a test of no vectors would always pass.
 const JOBS: usize = 389;
 
-/// How many files to be tidied.
+/// How many files to be tidied, and how many jobs to be dealt turns.
 const TO_BE_TIDIED: usize = 163;
+const TO_BE_DEALT: usize = 123;
 
-/// The folder of the files to be tidied; every other one has jobs.
-const TIDY_FOLDER: &str = "12-tidy";
+/// What is to be done with a case.
+#[derive(Clone, Copy, PartialEq, Eq)]
+enum Call {
+    Run,
+    Tidy,
+    Deal,
+}
 
-/// The suffixes of a job, and of a file to be tidied.
-const JOB_SUFFIXES: [&str; 5] = ["job", "room", "out", "refused", "print"];
-const TIDY_SUFFIXES: [&str; 5] = ["file", "depth", "room", "out", "refused"];
+impl Call {
+    /// The folders of the files to be tidied and of the jobs to be dealt turns are
+    /// known; every other one has jobs to be run.
+    fn of(name: &str) -> Call {
+        match name.split('/').next() {
+            Some("12-tidy") => Call::Tidy,
+            Some("14-deal") => Call::Deal,
+            _ => Call::Run,
+        }
+    }
 
-/// Enough for every job: bytes of the result buffer, rows, and bytes of other
-/// working memory.
+    /// The suffixes that its cases can have.
+    fn suffixes(self) -> &'static [&'static str] {
+        match self {
+            Call::Run => &["job", "room", "out", "refused", "print"],
+            Call::Tidy => &["file", "depth", "room", "out", "refused"],
+            Call::Deal => &["job", "room", "out", "refused"],
+        }
+    }
+
+    /// The names of its cases, with their folders.
+    fn names(self) -> impl Iterator<Item = String> {
+        let mine = move |name: &String| Call::of(name) == self;
+        suffixes().into_keys().filter(mine)
+    }
+}
+
+/// Enough for every job: bytes of the output, rows, and bytes of other working
+/// memory.
 pub const ENOUGH: (usize, usize, usize) = (1_048_576, 256, WORKING_MEMORY);
 
 /// One stored job.
@@ -74,39 +104,47 @@ pub struct ToBeTidied {
     pub wanted: Outcome,
 }
 
+/// One stored job to be dealt turns.
+pub struct ToBeDealt {
+    /// Its folder and name.
+    pub name: String,
+    pub job: Vec<u8>,
+    /// What is lent: bytes of the output, rows, and bytes of other working memory.
+    pub room: (usize, usize, usize),
+    pub wanted: Outcome,
+}
+
 /// The folder of all vectors.
 pub fn folder() -> PathBuf {
     Path::new(env!("CARGO_MANIFEST_DIR")).join("vectors")
 }
 
-/// All stored jobs, by name.
+/// All stored jobs to be run, by name.
 pub fn all() -> Vec<Vector> {
-    let names = suffixes().into_keys().filter(|name| !is_to_be_tidied(name));
-    let vectors: Vec<Vector> = names.map(|name| read(&name)).collect();
+    let vectors: Vec<Vector> = Call::Run.names().map(|name| read(&name)).collect();
     assert!(vectors.len() >= JOBS, "only {} vectors", vectors.len());
     vectors
 }
 
 /// All stored files to be tidied, by name.
 pub fn to_be_tidied() -> Vec<ToBeTidied> {
-    let names = suffixes().into_keys().filter(|name| is_to_be_tidied(name));
+    let names = Call::Tidy.names();
     let vectors: Vec<ToBeTidied> = names.map(|name| read_to_be_tidied(&name)).collect();
     assert!(vectors.len() >= TO_BE_TIDIED, "only {}", vectors.len());
     vectors
 }
 
-/// Whether a case, by its folder and name, is a file to be tidied.
-fn is_to_be_tidied(name: &str) -> bool {
-    name.split('/').next() == Some(TIDY_FOLDER)
+/// All stored jobs to be dealt turns, by name.
+pub fn to_be_dealt() -> Vec<ToBeDealt> {
+    let names = Call::Deal.names();
+    let vectors: Vec<ToBeDealt> = names.map(|name| read_to_be_dealt(&name)).collect();
+    assert!(vectors.len() >= TO_BE_DEALT, "only {}", vectors.len());
+    vectors
 }
 
 /// The suffixes that a case can have, by its folder and name.
-pub fn known_suffixes(name: &str) -> [&'static str; 5] {
-    if is_to_be_tidied(name) {
-        TIDY_SUFFIXES
-    } else {
-        JOB_SUFFIXES
-    }
+pub fn known_suffixes(name: &str) -> &'static [&'static str] {
+    Call::of(name).suffixes()
 }
 
 /// The suffixes that each name has.
@@ -132,18 +170,37 @@ fn in_words(name: &OsStr) -> String {
     name.to_str().expect("a plain name").to_string()
 }
 
-/// The stored job of one name, its folder before it.
+/// The stored job to be run of one name, its folder before it.
 pub fn read(name: &str) -> Vector {
     Vector {
         name: name.to_string(),
-        job: bytes(name, "job").unwrap_or_else(|| panic!("no {name}.job")),
-        room: numbers(name, "room").map_or(ENOUGH, |lent| match lent[..] {
-            [result, rows, memory] => (result, rows, memory),
-            _ => panic!("{name}.room: {lent:?}"),
-        }),
+        job: job(name),
+        room: room(name),
         wanted: wanted(name),
         print: bytes(name, "print").unwrap_or_else(|| panic!("no {name}.print")),
     }
+}
+
+/// The stored job to be dealt turns of one name, its folder before it.
+fn read_to_be_dealt(name: &str) -> ToBeDealt {
+    ToBeDealt {
+        name: name.to_string(),
+        job: job(name),
+        room: room(name),
+        wanted: wanted(name),
+    }
+}
+
+fn job(name: &str) -> Vec<u8> {
+    bytes(name, "job").unwrap_or_else(|| panic!("no {name}.job"))
+}
+
+/// What a run or dealing is lent: three numbers.
+fn room(name: &str) -> (usize, usize, usize) {
+    numbers(name, "room").map_or(ENOUGH, |lent| match lent[..] {
+        [output, rows, memory] => (output, rows, memory),
+        _ => panic!("{name}.room: {lent:?}"),
+    })
 }
 
 /// The stored file to be tidied of one name, its folder before it.

@@ -152,6 +152,10 @@ fn stored_refusals_agree_with_brute_force() {
         let wanted = check(&vector.file);
         assert_eq!(first_fault(&vector.file), wanted, "{}", vector.name);
     }
+    for vector in vectors::to_be_dealt() {
+        let wanted = check(&vector.job);
+        assert_eq!(first_fault(&vector.job), wanted, "{}", vector.name);
+    }
     tally.all_met(NUMBERS.into_iter().chain([0]), 5);
 }
 

@@ -50,6 +50,16 @@ fn every_file_to_be_tidied() {
     tally.all_met(NUMBERS.into_iter().chain([0]), 1);
 }
 
+/// So is a stored job to be dealt turns.
+#[test]
+fn every_job_to_be_dealt_turns() {
+    let mut tally = Tally::default();
+    for vector in vectors::to_be_dealt() {
+        tally.count(agree(&vector.job).map_or(0, |(number, _)| number));
+    }
+    tally.all_met(NUMBERS.into_iter().chain([0]), 1);
+}
+
 #[test]
 fn damaged_jobs() {
     let mut tally = Tally::default();

@@ -1,13 +1,13 @@
-//! Every stored job comes to what is stored beside it, to the byte, and prints its text; every stored file is tidied to what is stored beside it. They
-//! came with the documents and were not made here: `marked-` are the marked jobs and `full-` the largest; others are named by their fault, by their
-//! refusal, or by a number only.
+//! Every stored job comes to what is stored beside it, to the byte, and prints its text; every stored file is tidied, and every stored job without turns
+//! is dealt some, as is stored beside it. They came with the documents and were not made here: `marked-` are the marked jobs and `full-` the largest;
+//! others are named by their fault, by their refusal, or by a number only.
 
 use std::collections::BTreeMap;
 
 use chargefile_tests::damage::NUMBERS;
 use chargefile_tests::tally::Tally;
-use chargefile_tests::vectors::{all, known_suffixes, suffixes, to_be_tidied};
-use chargefile_tests::{check, report, run, tidy, Outcome};
+use chargefile_tests::vectors::{all, known_suffixes, suffixes, to_be_dealt, to_be_tidied};
+use chargefile_tests::{check, deal, report, run, tidy, Outcome};
 
 /// No stored case is said to differ.
 fn none_differ(wrong: &[String]) {
@@ -62,22 +62,52 @@ fn every_vector_is_tidied_or_refused() {
     none_differ(&wrong);
 }
 
+#[test]
+fn every_vector_is_dealt_turns_or_refused() {
+    let mut wrong = Vec::new();
+    for vector in to_be_dealt() {
+        let outcome = deal(&vector.job, vector.room);
+        if outcome != vector.wanted {
+            let (name, wanted) = (vector.name, vector.wanted);
+            wrong.push(format!("{name}: {outcome:?}, wanted: {wanted:?}"));
+        }
+    }
+    none_differ(&wrong);
+}
+
+/// The job's own refusals come first, and are those of the check; after them no other is told than 21 and 11.
+#[test]
+fn a_job_to_be_dealt_turns_is_refused_as_a_job_first() {
+    let mut tally = Tally::default();
+    for vector in to_be_dealt() {
+        let number = refused_as_a_job_first(&vector.name, &vector.job, &vector.wanted);
+        assert!(NUMBERS.contains(&number) || [0, 21, 11].contains(&number));
+        tally.count(number);
+    }
+    tally.all_met(NUMBERS.into_iter().chain([0, 21, 11]), 1);
+}
+
 /// The file's own refusals come first, and are those of a job; after them no other is told than 18, 19 and 11.
 #[test]
 fn a_file_to_be_tidied_is_refused_as_a_job_first() {
     let mut tally = Tally::default();
     for vector in to_be_tidied() {
-        let told = match vector.wanted {
-            Outcome::Done { .. } => None,
-            Outcome::Refused { number, place } => Some((number, place)),
-        };
-        let own = told.filter(|(number, _)| NUMBERS.contains(number));
-        assert_eq!(check(&vector.file), own, "{}", vector.name);
-        let number = told.map_or(0, |(number, _)| number);
-        assert!(own.is_some() || [0, 18, 19, 11].contains(&number));
+        let number = refused_as_a_job_first(&vector.name, &vector.file, &vector.wanted);
+        assert!(NUMBERS.contains(&number) || [0, 18, 19, 11].contains(&number));
         tally.count(number);
     }
     tally.all_met(NUMBERS.into_iter().chain([0, 18, 19, 11]), 1);
+}
+
+/// The check tells the refusal that is wanted, where it is one of a job's own, and else none. Gives back its number, 0 for none.
+fn refused_as_a_job_first(name: &str, bytes: &[u8], wanted: &Outcome) -> u32 {
+    let told = match *wanted {
+        Outcome::Done { .. } => None,
+        Outcome::Refused { number, place } => Some((number, place)),
+    };
+    let own = told.filter(|(number, _)| NUMBERS.contains(number));
+    assert_eq!(check(bytes), own, "{name}");
+    told.map_or(0, |(number, _)| number)
 }
 
 /// Each folder has as many as came, and no file that nothing reads.
@@ -102,6 +132,7 @@ fn the_vectors_are_all_there() {
         ("10-rising", 45),
         ("11-bounds", 14),
         ("12-tidy", 163),
+        ("14-deal", 123),
     ];
     let wanted = wanted.map(|(folder, vectors)| (folder.to_string(), vectors));
     assert_eq!(folders, BTreeMap::from(wanted));

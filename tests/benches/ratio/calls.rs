@@ -1,4 +1,4 @@
-//! The calls that are timed: check, run and tidying, of the library and of the rival.
+//! The calls that are timed: check, run, tidying and dealing, of the library and of the rival.
 
 use std::hint::black_box;
 use std::time::Instant;
@@ -8,7 +8,8 @@ use rival::Row;
 
 use crate::linked;
 
-const RESULT: usize = 21_048;
+/// The longest that an output must be lent: that of dealing, for the longest job without turns.
+const RESULT: usize = 40_988;
 const ROWS: usize = 256;
 
 #[derive(Clone, Copy)]
@@ -23,10 +24,11 @@ pub enum Call {
     Run,
     /// At this depth.
     Tidy(u64),
+    Deal,
 }
 
 /// What both are lent, enough for every job. Each has its own: neither finds in the cache what the other has written. Nothing is cleared between
-/// runs, since a run leaves memory and rows zero by itself. A tidied file goes to the result buffer, which is longer than any.
+/// runs, since a run leaves memory and rows zero by itself, and so does dealing. A tidied file goes to the result buffer, and so does a job with its turns.
 pub struct Lent {
     library: linked::Lent,
     result: Vec<u8>,
@@ -44,11 +46,12 @@ impl Lent {
         }
     }
 
-    /// Asserts that both accept the job, or tidy the charge file, and come to the same bytes.
+    /// Asserts that both accept the job, or tidy the charge file, or deal turns, and come to the same bytes.
     pub fn agree(&mut self, call: Call, job: &[u8]) {
         match call {
             Call::Check | Call::Run => self.agree_run(job),
             Call::Tidy(depth) => self.agree_tidy(job, depth),
+            Call::Deal => self.agree_deal(job),
         }
     }
 
@@ -65,6 +68,15 @@ impl Lent {
         assert_eq!(told.refusal, 0, "it is tidied");
         let length = told.length as usize;
         assert_eq!(self.rival_tidy(file, depth), Ok(length));
+        let same = self.result[..length] == self.library.result[..length];
+        assert!(same, "they differ");
+    }
+
+    fn agree_deal(&mut self, job: &[u8]) {
+        let told = linked::deal_only(job, &mut self.library);
+        assert_eq!(told.refusal, 0, "it is dealt turns");
+        let length = told.length as usize;
+        assert_eq!(self.rival_deal(job), Ok(length));
         let same = self.result[..length] == self.library.result[..length];
         assert!(same, "they differ");
     }
@@ -91,6 +103,12 @@ impl Lent {
             (Program::Rival, Call::Tidy(depth)) => nanoseconds(times, || {
                 black_box(self.rival_tidy(black_box(job), depth)).ok();
             }),
+            (Program::Library, Call::Deal) => nanoseconds(times, || {
+                black_box(linked::deal_only(black_box(job), &mut self.library));
+            }),
+            (Program::Rival, Call::Deal) => nanoseconds(times, || {
+                black_box(self.rival_deal(black_box(job))).ok();
+            }),
         }
     }
 
@@ -103,6 +121,11 @@ impl Lent {
     #[inline(never)]
     fn rival_tidy(&mut self, file: &[u8], depth: u64) -> Result<usize, rival::Refusal> {
         rival::tidy(file, depth, &mut self.result)
+    }
+
+    #[inline(never)]
+    fn rival_deal(&mut self, job: &[u8]) -> Result<usize, rival::Refusal> {
+        rival::deal(job, &mut self.result, &mut self.rows, &mut self.memory)
     }
 }
 

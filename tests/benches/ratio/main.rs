@@ -4,6 +4,7 @@
 
 mod bytes;
 mod calls;
+mod dealing;
 mod depths;
 mod jobs;
 #[path = "../../tests/linked/mod.rs"]
@@ -20,4 +21,5 @@ fn main() {
     depths::print();
     bytes::print();
     tidying::print();
+    dealing::print();
 }

@@ -1,5 +1,5 @@
-//! The check and the run of a job, and the tidying of a charge file, in safe Rust, tuned for time: what the library's time is held against. For
-//! measuring, not for use.
+//! The check and the run of a job, the dealing of its turns, and the tidying of a charge file, in safe Rust, tuned for time: what the library's time is
+//! held against. For measuring, not for use.
 //!
 //! What makes it fast:
 //!
@@ -9,13 +9,15 @@
 //! - the pseudo key of a call is worked out once for each operation, on its first turn, and of a record once for each split of its page; the check, which
 //!   needs those of all records, works out two at a time (`key::of_record`);
 //! - a turn that waits, or that is of a finished operation, is one test (`tables::FREE`);
-//! - which pages are left after joining is read off counts, and each is written once (`tidy`).
+//! - which pages are left after joining is read off counts, and each is written once (`tidy`);
+//! - for whom turns are dealt is kept in sets of bits, so that nobody who waits or has finished is passed over round after round (`deal`).
 //!
 //! A mask on an index or a shift, as in `count & 15`, changes nothing: it spares a test that the compiler would put in.
 #![forbid(unsafe_code)]
 
 mod bytes;
 mod check;
+mod deal;
 mod exact;
 mod header;
 mod held;
@@ -32,6 +34,7 @@ mod tables;
 mod tidy;
 
 pub use check::check;
+pub use deal::deal;
 pub use operation::Row;
 pub use run::run;
 pub use tidy::tidy;

@@ -105,7 +105,7 @@ fn deal<const N: usize>(
 
 /// One step of the operation; gives whether it is finished.
 #[inline(always)]
-fn step<const N: usize>(shared: &mut Shared<N>, operation: &mut Operation) -> bool {
+pub fn step<const N: usize>(shared: &mut Shared<N>, operation: &mut Operation) -> bool {
     match *operation.stage {
         NOT_BEGUN => shared.begin(operation),
         READ_PAGE => shared.read_page(operation),

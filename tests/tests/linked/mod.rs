@@ -69,9 +69,19 @@ unsafe extern "C" {
         out: *mut u8,
         out_len: usize,
     ) -> CallOutcome;
+    fn chargefile_deal(
+        job: *const u8,
+        job_len: usize,
+        out: *mut u8,
+        out_len: usize,
+        rows: *mut Row,
+        rows_len: usize,
+        memory: *mut u8,
+        memory_len: usize,
+    ) -> CallOutcome;
 }
 
-/// What a run is lent, filled with a pattern beforehand.
+/// What a run or dealing is lent, filled with a pattern beforehand. The output of dealing goes where the result of a run does.
 #[derive(Clone, PartialEq, Eq)]
 pub struct Lent {
     pub result: Vec<u8>,
@@ -162,6 +172,38 @@ pub fn tidy(file: &[u8], depth: u64, out: &mut [u8]) -> Told {
     told(outcome, out)
 }
 
+/// The dealing of turns for a job.
+pub fn deal_only(job: &[u8], lent: &mut Lent) -> CallOutcome {
+    let Lent {
+        result: out,
+        rows,
+        memory,
+    } = lent;
+    deal_with(job, out, rows, memory)
+}
+
+fn deal_with(job: &[u8], out: &mut [u8], rows: &mut [Row], memory: &mut [u8]) -> CallOutcome {
+    // SAFETY: the contract of `chargefile_deal` asks nothing of the four slices
+    unsafe {
+        chargefile_deal(
+            job.as_ptr(),
+            job.len(),
+            out.as_mut_ptr(),
+            out.len(),
+            rows.as_mut_ptr(),
+            rows.len(),
+            memory.as_mut_ptr(),
+            memory.len(),
+        )
+    }
+}
+
+/// Has turns dealt for a job.
+pub fn deal(job: &[u8], lent: &mut Lent) -> Told {
+    let outcome = deal_only(job, lent);
+    told(outcome, &lent.result)
+}
+
 /// What the library must tell where the tests' own implementation comes to this.
 pub fn wanted(outcome: &Outcome) -> Told {
     match outcome {
@@ -170,13 +212,29 @@ pub fn wanted(outcome: &Outcome) -> Told {
     }
 }
 
-/// Runs a job with so much lent: bytes of the result buffer, rows, bytes of working memory. It comes to this, and what is lent is left as the document
-/// says; a refusal has written nothing.
-pub fn comes_to(job: &[u8], (result, rows, memory): (usize, usize, usize), wanted: &Outcome) {
-    let before = Lent::new(result, rows, memory);
+/// What is lent: bytes of the output, rows, bytes of working memory.
+pub type Room = (usize, usize, usize);
+
+/// Runs a job with so much lent. It comes to this, and what is lent is left as the document says; a refusal has written nothing.
+pub fn comes_to(job: &[u8], room: Room, wanted: &Outcome) {
+    called(run, job, room, wanted);
+}
+
+/// Has turns dealt for a job with so much lent. It comes to this; rows and working memory "are left as after a run", and a refusal has written nothing.
+pub fn deals_to(job: &[u8], room: Room, wanted: &Outcome) {
+    called(deal, job, room, wanted);
+}
+
+fn called(
+    call: fn(&[u8], &mut Lent) -> Told,
+    job: &[u8],
+    (output, rows, memory): Room,
+    wanted: &Outcome,
+) {
+    let before = Lent::new(output, rows, memory);
     let mut after = before.clone();
     let given = black_box(job.to_vec());
-    let told = run(&given, &mut after);
+    let told = call(&given, &mut after);
     assert!(black_box(given) == job, "the job's own bytes are written");
     assert_eq!(told, self::wanted(wanted));
     match wanted {
@@ -252,5 +310,35 @@ pub fn tidies_to(file: &[u8], depth: u64, room: usize, behind: (usize, usize), w
     assert!(
         out.all.iter().all(|byte| *byte == 0xA5),
         "a byte that is not the output's is written"
+    );
+}
+
+/// The same as [`deals_to`], with the job's bytes, the output and the working memory so many bytes behind a round address. Nothing beside what is lent is
+/// written either.
+pub fn deals_at(job: &[u8], room: Room, behind: [usize; 3], wanted: &Outcome) {
+    let mut given = black_box(Placed::of(job, behind[0]));
+    let mut out = Placed::filled(0xA5, room.0, behind[1]);
+    let mut memory = Placed::filled(0xC3, room.2, behind[2]);
+    let mut rows = vec![row_of(0x5A); room.1 + 2];
+    let lent_rows = &mut rows[1..=room.1];
+    let outcome = deal_with(given.bytes(), out.bytes(), lent_rows, memory.bytes());
+    assert!(
+        black_box(given).bytes() == job,
+        "the job's own bytes are written"
+    );
+    assert_eq!(told(outcome, out.bytes()), self::wanted(wanted));
+    if let Outcome::Done { result } = wanted {
+        out.bytes()[..result.len()].fill(0xA5);
+        let lent_rows = &mut rows[1..=room.1];
+        let zero = memory.bytes().iter().all(|byte| *byte == 0);
+        assert!(zero && lent_rows.iter().all(|row| *row == NO_ROW));
+        lent_rows.fill(row_of(0x5A));
+        memory.bytes().fill(0xC3);
+    }
+    assert!(
+        out.all.iter().all(|byte| *byte == 0xA5)
+            && memory.all.iter().all(|byte| *byte == 0xC3)
+            && rows.iter().all(|row| *row == row_of(0x5A)),
+        "what is not to be written is written"
     );
 }
