@@ -21,7 +21,6 @@ use Rattle.laws.specs.Codec.Tools.{orElse-none, numbered-none}
 use Rattle.header.specs.declared.Header.{Header}
 use Rattle.header.specs.Counts.{countsOf}
 use Rattle.turn.specs.declared.Row.{Row}
-use Rattle.turn.specs.Rows.{blankRow}
 use Rattle.simulation.specs.RowBack.{blank-row}
 use Rattle.run.specs.Answer.{isAccepted, refusedBy}
 use Rattle.run.specs.Table.{Accepts}
