@@ -3,29 +3,24 @@ use mathlib.Core.Path.{_≡_, refl, sym, _∙_}
 use mathlib.Core.List.{List}
 use mathlib.Core.Bool.{false}
 use mathlib.Core.Option.{Option, none, some}
-use Prim.Native.Nat.{ℕ, _+_, _*_, _≤_}
-use lib.ListN.{length}
+use Prim.Native.Nat.{ℕ}
+use borrow.Author.Tests.{eq-eqb, ne-eqb}
 use Rattle.spec.specs.declared.Spot.the-variants.{At, Nowhere}
 use Rattle.spec.specs.declared.Checked.the-variants.{Accepted as AcceptedBy, Refused as RefusedBy}
 use Rattle.spec.specs.declared.Outcome.the-variants.{Done}
 use Rattle.spec.specs.Basics.{when, orElse}
-use Rattle.spec.specs.Job.{turnCountAt, turnSize}
+use Rattle.spec.specs.Job.{turnCountAt}
 use Rattle.spec.specs.Decode.{headerOf}
-use Rattle.spec.specs.Check.{Lent, Fault, workSize, numbered, jobFault}
+use Rattle.spec.specs.Check.{Lent, Fault, numbered, jobFault}
 use Rattle.spec.specs.Cases.{spotOf, checkedOf}
 use Rattle.spec.specs.Outcome.{outcomeBy, afterCall, bufferBy, rowsBy, workBy}
-use Rattle.spec.specs.Deal.{maxDealt, turnsPresent, smallForDeal, dealFault, dealOutcome, dealBuffer, dealRows, dealWork}
-use Rattle.spec.specs.Dealt.{DealsTurns}
-use borrow.Author.Tests.{eq-eqb, ne-eqb}
-use Rattle.laws.specs.Codec.Tools.{orElse-none, numbered-none}
-use Rattle.header.specs.declared.Header.{Header}
-use Rattle.header.specs.Counts.{countsOf}
+use Rattle.spec.specs.Deal.{turnsPresent, smallForDeal, dealFault, dealOutcome, dealBuffer, dealRows, dealWork}
+use Rattle.laws.specs.Dealt.{deal-said, deals-turns}
 use Rattle.turn.specs.declared.Row.{Row}
 use Rattle.simulation.specs.RowBack.{blank-row}
 use Rattle.run.specs.Answer.{isAccepted, refusedBy}
-use Rattle.run.specs.Table.{Accepts}
 use Rattle.run.specs.Call.{lent}
-use Rattle.run.proofs.Ends.{blank-stage, at-place, nowhere, some-none, true-false, enough-for}
+use Rattle.run.proofs.Ends.{blank-stage, at-place, nowhere, some-none, true-false}
 use Rattle.deal.specs.Call.{Accepted, Dealt, Settled}
 
 -- ---- what the rows of the refusal table tell, and the rows 21 and 11 of dealing
@@ -60,33 +55,18 @@ module _ (l : Lent) (b : List ℕ) where
 -- ---- a job for which turns are dealt
 
 module _ {b s : List ℕ} {x : List Row} {w : List ℕ} (a : Accepted b s x w) where
-  none-of : (jobFault b ≡ none) × (turnsPresent b ≡ none) × (smallForDeal (lent s x w) b ≡ none)
-  unfolding dealFault
-  none-of =
-      let e = a .faultless in
-      let z = simp (orElse-none, numbered-none) at e in (z .0, z .1 .0, z .1 .1)
-
-  pub faultless : jobFault b ≡ none
-  faultless = none-of .0
-
-  pub accepts : (h : Header) → countsOf h ≡ headerOf b → Accepts h b
-  accepts h c = record { bytes = a .bytes; accepted = faultless; counts = c }
-
-  -- what is lent is enough
-  pub enough : (h : Header) → countsOf h ≡ headerOf b → (length b + turnSize * maxDealt ≤ length s) × (h .ops ≤ length x) × (workSize ≤ length w)
-  enough h c = let z = enough-for (length b + turnSize * maxDealt) (lent s x w) b (unfold smallForDeal in none-of .2) in (z .0, rw (← c) at (z .1), z .2)
-
-  pub dealt : DealsTurns → {t : List ℕ} {y : List Row} {u : List ℕ} {v : ℕ} → Dealt b s t x y w u v → Settled b s t x y w u (Done v)
+  pub dealt : {t : List ℕ} {y : List Row} {u : List ℕ} {v : ℕ} → Dealt b s t x y w u v → Settled b s t x y w u (Done v)
   unfolding dealOutcome outcomeBy dealBuffer bufferBy dealRows rowsBy dealWork workBy afterCall
-  dealt law r =
+  dealt r =
       let e = a .faultless in
+      let n = deal-said (lent s x w) b .0 e in
       record {
         answer = rw (e, r .total);
         output = rw e (r .output);
         rows = rw e (r .rows);
         work = rw e (r .work);
         fixed = (sym blank-row, blank-stage);
-        dealt = λ z. law b (a .bytes) faultless (none-of .1);
+        dealt = λ z. deals-turns b (a .bytes) (n .accepted) (n .unturned);
       }
 
 -- ---- a job that is refused: nothing lent is written

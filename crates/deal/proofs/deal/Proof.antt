@@ -47,7 +47,6 @@ use Rattle.spec.proofs.Outcome.Laws as Ou′
 use Rattle.spec.specs.Bytes.{AreBytes}
 use Rattle.spec.specs.Cases.{checkedOf}
 use Rattle.spec.specs.Deal.{dealFault}
-use Rattle.laws.specs.Dealt.{deals-turns}
 use Rattle.turn.specs.declared.Row.{Row}
 use Rattle.turn.proofs.Row as T
 use Rattle.run.specs.Answer.{isAccepted, refusedBy, doneFor}
@@ -90,7 +89,7 @@ module _ (b s : List ℕ) (x : List Row) (w : List ℕ) where
   accepts c y e a h = record { bytes = e .1; faultless = accepted-none _ (sym (ap isAccepted (e .0)) ∙ (sym a ∙ is-true y h)) }
 
   settled-dealt : (t : List ℕ) (z : List Row) (u : List ℕ) (n : ℕ) (r : Outcome) → Accepted b s x w → Dealt b s t x z w u n → r ≡ doneFor n → Settled b s t x z w u r
-  settled-dealt t z u n r a e f = subst (λ (o : Outcome). Settled b s t x z w u o) (sym f) (ends.dealt a deals-turns e)
+  settled-dealt t z u n r a e f = subst (λ (o : Outcome). Settled b s t x z w u o) (sym f) (ends.dealt a e)
 
   settled-refused : (c : Checked) (y : Bool) (r : Outcome) → Says c → y ≡ isAccepted c → dec.T (not y) → r ≡ refusedBy c → Settled b s s x x w w r
   settled-refused c y r e a h f = subst (λ (o : Outcome). Settled b s s x x w w o) (sym (f ∙ ap refusedBy (e .0))) (ends.refused b s x w (sym (ap isAccepted (e .0)) ∙ (sym a ∙ is-false y h)))
