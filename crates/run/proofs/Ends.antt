@@ -33,19 +33,19 @@ use Rattle.run.specs.Table.{Accepts}
 use Rattle.run.specs.Call.{lent, Accepted, Ran, Written, Settled}
 
 -- the fixed value of a row says that its operation is not begun
-blank-stage : stageIn blankRow ≡ NotBegun
+pub blank-stage : stageIn blankRow ≡ NotBegun
 unfolding stageIn if
 blank-stage = refl
 
 -- ---- what the rows of the refusal table tell
 
 -- row 11, by its place
-at-place : (o : Option ℕ) (p : ℕ) → At p ≡ spotOf o → RefusedBy 11 p ≡ checkedOf (numbered 11 o)
+pub at-place : (o : Option ℕ) (p : ℕ) → At p ≡ spotOf o → RefusedBy 11 p ≡ checkedOf (numbered 11 o)
 unfolding spotOf numbered checkedOf
 at-place none p f = let z : _≡_ {A = ℕ} 0 1 = cc in absurd (omega arith)
 at-place (some q) p f = let z : p ≡ q = cc in rw z
 
-nowhere : (o : Option ℕ) → Nowhere ≡ spotOf o → AcceptedBy ≡ checkedOf (numbered 11 o)
+pub nowhere : (o : Option ℕ) → Nowhere ≡ spotOf o → AcceptedBy ≡ checkedOf (numbered 11 o)
 unfolding spotOf numbered checkedOf
 nowhere none f = refl
 nowhere (some q) f = let z : _≡_ {A = ℕ} 0 1 = cc in absurd (omega arith)
@@ -64,10 +64,10 @@ module _ (l : Lent) (b : List ℕ) where
   unfolding firstFault orElse
   by-none e f = rw e (nowhere (smallOutput l b) f)
 
-some-none : {f : Fault} → some f ≡ none → ⊥
+pub some-none : {f : Fault} → some f ≡ none → ⊥
 some-none e = let z : _≡_ {A = ℕ} 0 1 = cc in omega arith
 
-true-false : true ≡ false → ⊥
+pub true-false : true ≡ false → ⊥
 true-false e = let z : _≡_ {A = ℕ} 0 1 = cc in omega arith
 
 pub accepted-none : (f : Option Fault) → isAccepted (checkedOf f) ≡ true → f ≡ none
