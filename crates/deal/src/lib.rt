@@ -12,6 +12,7 @@ ghost use Rattle.spec.specs.Bytes.{AreBytes, two, four};
 ghost use Rattle.spec.specs.Job.{headerSize, turnCountAt, totalAt, turnSize};
 ghost use Rattle.spec.specs.Cases.{checkedOf};
 ghost use Rattle.spec.specs.Deal.{maxDealt, dealFault};
+ghost use Rattle.laws.specs.Codec.Longest.{longest};
 ghost use Rattle.wire.specs.Over.{over};
 ghost use Rattle.deal.specs.Call.{Accepted, Dealt, Settled};
 
@@ -40,7 +41,7 @@ fn check_all(job: &[u8], output: usize, rows: usize, work: usize) -> Checked
 // The list of n turns stands in the output already: the job is written before it, with their count and the total, which is told; and "lent working
 // memory is zero".
 fn close(job: &[u8], n: usize, out: &mut [u8], work: &mut [u8]) -> usize
-    requires { ⌜ (headerSize ≤ length (now job)) × (length (now job) ≤ 20512) × (n ≤ maxDealt) × (length (now job) + turnSize * n ≤ length (now out)) ⌝ }
+    requires { ⌜ (headerSize ≤ length (now job)) × (length (now job) ≤ longest) × (n ≤ maxDealt) × (length (now job) + turnSize * n ≤ length (now out)) ⌝ }
     ensures { λ r. ⌜ (r ≡ length (now (job .entry)) + turnSize * n) × (now (out .exit) ≡ over (over (over (now (out .entry)) 0 (now (job .entry))) turnCountAt (two n)) totalAt (four r)) × (now (work .exit) ≡ replicate (length (now (work .entry))) 0) ⌝ }
 {
     let total = job.len() + 2 * n;

@@ -101,9 +101,12 @@ module _ (j : Job) (sized : Sized (j .file)) (unturned : j .turns ≡ []) (ts : 
       rw (size, before) (after ∙ ap (λ (b : List ℕ). b ++ each two ts) (header-with (j .file) (length (j .ops)) (length ts) between))
 
 -- 21 is not told: there are no turns
-no-turn : (b : List ℕ) → turnsPresent b ≡ none → jobOf b .turns ≡ []
+pub none-counted : (b : List ℕ) → turnsPresent b ≡ none → headerOf b .turns ≡ 0
 unfolding turnsPresent
-no-turn b e = no-member (jobOf b .turns) (counted b .turns ∙ (simp failed at e))
+none-counted b e = simp failed at e
+
+no-turn : (b : List ℕ) → turnsPresent b ≡ none → jobOf b .turns ≡ []
+no-turn b e = no-member (jobOf b .turns) (counted b .turns ∙ none-counted b e)
 
 module _ (b : List ℕ) (bytes : AreBytes b) (accepted : Accepted b) (unturned : turnsPresent b ≡ none) where
   proper : JobProper (jobOf b)
@@ -134,7 +137,7 @@ module _ (b : List ℕ) (bytes : AreBytes b) (accepted : Accepted b) (unturned :
   unfolding dealtBytes
   dealt-same = rw (encode-decode b bytes accepted) at (written-with (jobOf b) sized (no-turn b unturned) (dealt (jobOf b)))
 
-  dealt-length : length (dealtBytes b) ≡ length b + turnSize * length (dealt (jobOf b))
+  pub dealt-length : length (dealtBytes b) ≡ length b + turnSize * length (dealt (jobOf b))
   unfolding dealtBytes
   dealt-length = rw (encode-decode b bytes accepted) at (length-with (jobOf b) sized (no-turn b unturned) (dealt (jobOf b)))
 
