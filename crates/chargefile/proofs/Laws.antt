@@ -1,4 +1,4 @@
--- Refusal 0 is told exactly when nothing is refused; and what is handed over, of a check, of a run and of tidying.
+-- Refusal 0 is told exactly when nothing is refused; and what is handed over, of a check, of a run, of dealing and of tidying.
 use Prim.Native.Nat.{ℕ}
 use mathlib.Core.Path.{_≡_, refl, sym, ap, subst, _∙_}
 use mathlib.Core.Logic.{_↔_}
@@ -10,15 +10,18 @@ use Rattle.spec.specs.declared.Outcome.the-variants.{Done, Refused}
 use Rattle.spec.specs.Check.{Fault, jobFault, firstFault}
 use Rattle.spec.specs.Cases.{checkedOf}
 use Rattle.spec.specs.Outcome.{resultBytes, outcomeBy, outcome}
+use Rattle.spec.specs.Deal.{dealtBytes, dealFault, dealOutcome}
 use Rattle.spec.specs.Tidy.{tidyBytes, tidyFault, tidyOutcome}
+use Rattle.laws.specs.Dealt.{deal-numbered}
 use Rattle.laws.specs.Tidy.Bytes.{fault-numbered}
 use Rattle.laws.specs.Codec.Numbered.{Numbered, job-numbered, first-numbered}
 use Rattle.turn.specs.declared.Row.{Row}
 use Rattle.run.specs.Call.{lent, Settled}
+use Rattle.deal.specs.Call.{Settled as DealSettled}
 use Rattle.tidy.specs.Call.{Settled as TidySettled}
 use Rattle.chargefile.specs.declared.CallOutcome.{CallOutcome}
 use Rattle.chargefile.specs.Handed.{handed, outcomeOf}
-use Rattle.chargefile.specs.Called.{CheckCalled, Called, TidyCalled}
+use Rattle.chargefile.specs.Called.{CheckCalled, Called, DealCalled, TidyCalled}
 
 -- an outcome that goes by a fault, whose number is not 0
 zero-none
@@ -41,6 +44,10 @@ module _ (b s : List ℕ) (x : List Row) (w : List ℕ) where
   unfolding outcome outcomeBy
   run-zero = zero-none (firstFault (lent s x w) b) (λ o. outcomeBy o (resultBytes b)) refl (λ f. refl) (first-numbered (lent s x w) b)
 
+  deal-zero : (handed (dealOutcome (lent s x w) b) .refusal ≡ 0) ↔ (dealFault (lent s x w) b ≡ none)
+  unfolding dealOutcome outcomeBy
+  deal-zero = zero-none (dealFault (lent s x w) b) (λ o. outcomeBy o (dealtBytes b)) refl (λ f. refl) (deal-numbered (lent s x w) b)
+
 -- a check's answer, handed over
 pub check-called : (b : List ℕ) {r : CallOutcome} → r ≡ handed (outcomeOf (checkedOf (jobFault b))) → CheckCalled b r
 check-called b e =
@@ -58,6 +65,20 @@ called {b} {s} {t} {x} {y} {w} {u} o h z =
       run = subst (λ (v : Outcome). Settled b s t x y w u v) (h .answer) h;
       handed = e;
       accepted = subst (λ (v : CallOutcome). (v .refusal ≡ 0) ↔ (firstFault (lent s x w) b ≡ none)) (sym e) (run-zero b s x w);
+    }
+
+-- dealing's outcome o, handed over
+pub deal-called
+    : {b s t : List ℕ} {x y : List Row} {w u : List ℕ} {r : CallOutcome} (o : Outcome)
+    → DealSettled b s t x y w u o
+    → r ≡ handed o
+    → DealCalled b s t x y w u r
+deal-called {b} {s} {t} {x} {y} {w} {u} o h z =
+    let e = z ∙ ap handed (h .answer) in
+    record {
+      dealt = subst (λ (v : Outcome). DealSettled b s t x y w u v) (h .answer) h;
+      handed = e;
+      accepted = subst (λ (v : CallOutcome). (v .refusal ≡ 0) ↔ (dealFault (lent s x w) b ≡ none)) (sym e) (deal-zero b s x w);
     }
 
 -- tidying's outcome o, handed over

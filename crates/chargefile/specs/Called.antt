@@ -1,4 +1,4 @@
--- What the calls come to for a C or Rust program: the numbers that it gets, and the whole outcome of a run and of tidying.
+-- What the calls come to for a C or Rust program: the numbers that it gets, and the whole outcome of a run, of dealing and of tidying.
 use Prim.Native.Nat.{ℕ}
 use mathlib.Core.Path.{_≡_}
 use mathlib.Core.Logic.{_↔_}
@@ -8,9 +8,11 @@ use lib.ListN.{length}
 use Rattle.spec.specs.Check.{jobFault, firstFault}
 use Rattle.spec.specs.Cases.{checkedOf}
 use Rattle.spec.specs.Outcome.{outcome}
+use Rattle.spec.specs.Deal.{dealFault, dealOutcome}
 use Rattle.spec.specs.Tidy.{tidyFault, tidyOutcome}
 use Rattle.turn.specs.declared.Row.{Row}
 use Rattle.run.specs.Call.{lent, Settled}
+use Rattle.deal.specs.Call.{Settled as DealSettled}
 use Rattle.tidy.specs.Call.{Settled as TidySettled}
 use Rattle.chargefile.specs.declared.CallOutcome.{CallOutcome}
 use Rattle.chargefile.specs.Handed.{handed, outcomeOf}
@@ -26,6 +28,13 @@ pub record Called (b s t : List ℕ) (x y : List Row) (w u : List ℕ) (r : Call
   pub run : Settled b s t x y w u (outcome (lent s x w) b)
   pub handed : r ≡ handed (outcome (lent s x w) b)
   pub accepted : (r .refusal ≡ 0) ↔ (firstFault (lent s x w) b ≡ none)
+
+-- Turns dealt for the job b; output buffer, table and memory before (s, x, w) and after (t, y, u); r is returned. Refusal 0 is told exactly when
+-- nothing is refused
+pub record DealCalled (b s t : List ℕ) (x y : List Row) (w u : List ℕ) (r : CallOutcome) : Type 0 where
+  pub dealt : DealSettled b s t x y w u (dealOutcome (lent s x w) b)
+  pub handed : r ≡ handed (dealOutcome (lent s x w) b)
+  pub accepted : (r .refusal ≡ 0) ↔ (dealFault (lent s x w) b ≡ none)
 
 -- The charge file b tidied at the wanted depth d; output buffer before (s) and after (t); r is returned. Refusal 0 is told exactly when nothing
 -- is refused

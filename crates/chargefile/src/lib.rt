@@ -4,7 +4,7 @@ use spec::Outcome;
 use turn::Row;
 ghost use mathlib.Core.Path.{_≡_};
 ghost use Rattle.chargefile.specs.Handed.{outcomeOf, handed};
-ghost use Rattle.chargefile.specs.Called.{CheckCalled, Called, TidyCalled};
+ghost use Rattle.chargefile.specs.Called.{CheckCalled, Called, DealCalled, TidyCalled};
 
 // What a call comes to. refusal 0: done, and length is the output's; else its number, with place, and length 0.
 // It is given by value, so that a refused call has written to no lent memory whatever.
@@ -64,6 +64,20 @@ pub extern "C" fn chargefile_run(
     ensures { λ r. ⌜ Called (now (job .entry)) (now (result .entry)) (now (result .exit)) (now (rows .entry)) (now (rows .exit)) (now (memory .entry)) (now (memory .exit)) r ⌝ }
 {
     let o = run::run(job, result, rows, memory);
+    handed(o)
+}
+
+// A job with operations and no turns, written again with a turn list that finishes them all. Any lengths may be lent, as for a run.
+#[no_mangle]
+pub extern "C" fn chargefile_deal(
+    job: &[u8],
+    out: &mut [u8],
+    rows: &mut [Row],
+    memory: &mut [u8],
+) -> CallOutcome
+    ensures { λ r. ⌜ DealCalled (now (job .entry)) (now (out .entry)) (now (out .exit)) (now (rows .entry)) (now (rows .exit)) (now (memory .entry)) (now (memory .exit)) r ⌝ }
+{
+    let o = deal::deal(job, out, rows, memory);
     handed(o)
 }
 
