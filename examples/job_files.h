@@ -71,7 +71,7 @@ static inline bool was_accepted(const char *program, chargefile_outcome told)
         [CHARGEFILE_REFUSED_OPERATION] = "operation", [CHARGEFILE_REFUSED_TURN] = "turn",
         [CHARGEFILE_REFUSED_OUTPUT] = "output",       [CHARGEFILE_REFUSED_PATTERN] = "pattern",
         [CHARGEFILE_REFUSED_ZERO] = "zero",           [CHARGEFILE_REFUSED_PRESENT] = "present",
-        [CHARGEFILE_REFUSED_DEPTH] = "depth",
+        [CHARGEFILE_REFUSED_DEPTH] = "depth",         [CHARGEFILE_REFUSED_DEALT] = "dealt",
     };
     if (told.refusal == CHARGEFILE_ACCEPTED) {
         return true;

@@ -6,9 +6,6 @@
 
 #include "lent.h"
 
-/* "21 (turns present, at their count)" */
-enum { TURNS_PRESENT = 21 };
-
 /* The least that dealing must be lent for this job: "the job's length and 20,476 bytes more", and
  * what a run needs of the rest. */
 void lend_for_dealing(const job *j);

@@ -94,6 +94,7 @@ static void sizes(void)
 static void sizes_for_dealing(void)
 {
     counts c = {8, 8, 256, 1, 256, 0};
+    EXPECT_EQUAL(CHARGEFILE_DEALT_TURNS_MAX, 10238);
     EXPECT_EQUAL(CHARGEFILE_DEALT_MORE, 20476);
     EXPECT_EQUAL(CHARGEFILE_DEAL_MAX, layout_of(c).total + 20476);
     EXPECT_EQUAL(CHARGEFILE_DEAL_MAX, 40988);
@@ -144,6 +145,7 @@ static void refusal_numbers(void)
     }
     EXPECT_EQUAL(CHARGEFILE_REFUSED_PRESENT, 18);
     EXPECT_EQUAL(CHARGEFILE_REFUSED_DEPTH, 19);
+    EXPECT_EQUAL(CHARGEFILE_REFUSED_DEALT, 21);
 }
 
 /* "place 0", "place 1", "place 2" of a run; "at place 0 as for every later output" */

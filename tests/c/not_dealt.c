@@ -85,7 +85,7 @@ static void turns_present(void)
         counts c = {1, 2, 2, 1, 3, turns[i]};
         make_job(&j, c);
         expect_done(check(&j), 0);
-        expect_not_dealt(&j, TURNS_PRESENT, CHARGEFILE_AT_TURNS);
+        expect_not_dealt(&j, CHARGEFILE_REFUSED_DEALT, CHARGEFILE_AT_TURNS);
     }
 }
 
@@ -94,7 +94,7 @@ static void dealt_twice(void)
 {
     lend_job_e();
     expect_turns(&j, &dealt);
-    expect_not_dealt(&dealt, TURNS_PRESENT, CHARGEFILE_AT_TURNS);
+    expect_not_dealt(&dealt, CHARGEFILE_REFUSED_DEALT, CHARGEFILE_AT_TURNS);
 }
 
 /* "after the job's own refusals": a turn that names no operation, and a count past its limit */
@@ -161,8 +161,8 @@ static void null_where_nothing_is_lent(void)
                                 set.memory, set.memory_length),
                 j.length);
     make_job_e(&j, 1);
-    expect_refusal(chargefile_deal(j.bytes, j.length, NULL, 0, NULL, 0, NULL, 0), TURNS_PRESENT,
-                   CHARGEFILE_AT_TURNS);
+    expect_refusal(chargefile_deal(j.bytes, j.length, NULL, 0, NULL, 0, NULL, 0),
+                   CHARGEFILE_REFUSED_DEALT, CHARGEFILE_AT_TURNS);
 }
 
 void not_dealt_tests(void)

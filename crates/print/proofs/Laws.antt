@@ -12,7 +12,7 @@ use Rattle.spec.specs.Bytes.{AreBytes}
 use Rattle.spec.specs.Decode.{jobOf}
 use Rattle.spec.specs.Result.{result}
 use Rattle.spec.specs.Check.{Fault, jobFault, firstFault}
-use Rattle.spec.specs.Outcome.{resultBytes, outcomeBy, outcome, afterCall, bufferBy, bufferAfter, rowsAfter}
+use Rattle.spec.specs.Outcome.{resultBytes, outcomeBy, outcome, afterCall, bufferBy, bufferAfter, rowsBy, rowsAfter}
 use Rattle.spec.specs.Report.{refusedLine, printedBy, printed}
 use Rattle.laws.specs.Codec.Tools.{orElse-none}
 use Rattle.laws.specs.Codec.ResultBack.{ResultFits}
@@ -55,7 +55,7 @@ pub settled-here
     : {b s t : List ℕ} {y : List Row} {w u : List ℕ} {r : Outcome}
     → Settled b s t fullTable y w u r
     → Settled b s t fullTable fullTable w u r
-unfolding rowsAfter
+unfolding rowsAfter rowsBy
 settled-here {b} {s} {t} {y} {w} {u} {r} call =
     subst (λ (z : List Row). Settled b s t fullTable z w u r) (call .rows ∙ blank-again (firstFault (lent s fullTable w) b)) call
 

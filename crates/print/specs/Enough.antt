@@ -7,7 +7,7 @@ use native.Mathlib.Omega.{arith}
 use Rattle.spec.specs.Basics.{orElse}
 use Rattle.spec.specs.Job.{Header}
 use Rattle.spec.specs.Decode.{headerOf}
-use Rattle.spec.specs.Check.{Lent, Fault, workSize, resultSize, smallOutput, numbered, jobFault, firstFault}
+use Rattle.spec.specs.Check.{Lent, Fault, workSize, resultSize, smallFor, smallOutput, numbered, jobFault, firstFault}
 use Rattle.spec.specs.Report.{printedBy, printed}
 use Rattle.laws.specs.Codec.Tools.{failed, among-none, among-end}
 use Rattle.laws.specs.Codec.Rows.{Limits, accepted-header}
@@ -23,7 +23,7 @@ result-most h l = omega (arith, file-most h l, l .ops)
 
 module _ (b : List ℕ) (l : Lent) (result : mostResult ≤ l .output) (rows : 256 ≤ l .rows) (work : workSize ≤ l .work) where
   never : jobFault b ≡ none → smallOutput l b ≡ none
-  unfolding smallOutput
+  unfolding smallOutput smallFor
   never e =
       let k = accepted-header b e .limits in
       simp (failed, among-none, among-end) (omega (arith, result-most (headerOf b) k), (omega (arith, k .ops), (work, tt)))
