@@ -4,7 +4,9 @@
 use std::collections::BTreeSet;
 
 use crate::by_hand::{delete, delete_at, insert, search};
-use crate::examples_parts::{brimful, even_file, filled, parted_file, record, rounds};
+use crate::deal;
+use crate::examples_parts::{brimful, even_file, filled, parted_file, rounds};
+use crate::examples_refused::{exchanged, leftover, misfiled, wide};
 use crate::job::{Job, MAX_CAPACITY, MAX_DEPTH, MAX_OPERATIONS, MAX_PAGES, MAX_TURNS};
 use crate::make_rounds::hotel_of_forty;
 
@@ -38,6 +40,8 @@ pub fn examples() -> Vec<Example> {
         example("april", april()),
         example("hotel", hotel()),
         example("school", school()),
+        example("evening", evening()),
+        example("dealt", dealt()),
         example("stale", stale()),
         example("late", late()),
         example("bursars", bursars()),
@@ -153,6 +157,17 @@ fn school() -> Job {
         operations: vec![search(10), insert(15, 55), delete(12), search(14)],
         turns: turns.concat(),
     }
+}
+
+/// The same before any turn, as it is handed in to be dealt a list; and with it.
+fn evening() -> Job {
+    let turns = vec![];
+    Job { turns, ..school() }
+}
+
+fn dealt() -> Job {
+    let turns = deal::list(&evening());
+    Job { turns, ..school() }
 }
 
 /// Two searches read page 1 after their entries have left it.
@@ -297,56 +312,6 @@ fn tidied() -> Job {
         ),
         operations: vec![insert(21, 80), insert(28, 70), search(14)],
         turns: [vec![0; 10], vec![1; 9], vec![2; 2]].concat(),
-    }
-}
-
-/// Call 7 stands in page 2, which has pattern 1; its pseudo key begins with 0.
-fn misfiled() -> Job {
-    let mut file = filled(even_file(1, 3, 2, 1), &[(4, 50), (9, 90), (1, 30)]);
-    file.page_mut(2)
-        .records
-        .extend([record(7, 15), record(8, 70)]);
-    Job {
-        file,
-        operations: vec![search(7)],
-        turns: rounds(&[0], 3),
-    }
-}
-
-/// Call 256 stands before call 254. Its bytes are lower, the first ones first,
-/// but not the number.
-fn exchanged() -> Job {
-    let mut file = filled(even_file(1, 3, 2, 1), &[(255, 30), (258, 70)]);
-    file.page_mut(1).records = vec![record(256, 15), record(254, 90)];
-    Job {
-        file,
-        operations: vec![search(254)],
-        turns: rounds(&[0], 3),
-    }
-}
-
-/// Page 2 has entries 2 and 3: pattern 1, a single bit. What stands there is 2,
-/// binary 10, the number of the first entry that names it.
-fn wide() -> Job {
-    let mut file = filled(even_file(2, 2, 2, 1), &[(4, 50), (3, 70), (5, 20)]);
-    file.page_mut(2).pattern = 2;
-    Job {
-        file,
-        operations: vec![search(3)],
-        turns: rounds(&[0], 3),
-    }
-}
-
-/// Call 252 was taken out of page 1 by hand. 254 and 256 have moved up, and 256
-/// also stands where it was before; the count is put right by an edit.
-fn leftover() -> Job {
-    let calls = [(254, 90), (256, 15), (255, 30), (258, 70)];
-    let mut file = filled(even_file(1, 3, 2, 1), &calls);
-    file.page_mut(1).records.push(record(256, 15));
-    Job {
-        file,
-        operations: vec![search(256)],
-        turns: rounds(&[0], 3),
     }
 }
 

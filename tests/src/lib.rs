@@ -46,6 +46,7 @@ pub mod damage_records;
 pub mod deal;
 pub mod examples;
 pub mod examples_parts;
+pub mod examples_refused;
 pub mod explain;
 pub mod file;
 pub mod job;

@@ -236,3 +236,20 @@ fn a_search_does_not_see_what_the_job_stores() {
     let codes: Vec<u8> = told.answers.iter().map(|answer| answer.0).collect();
     assert_eq!(codes, [STORED, NONE, NONE]);
 }
+
+/// The boarding school's job: at lights out two operations were under way, and one was not begun.
+#[test]
+fn the_school_misses_nothing() {
+    let named = |name| {
+        let found = examples().into_iter().find(|example| example.name == name);
+        found.expect("an example of this name").job
+    };
+    let (school, evening, dealt) = (named("school"), named("evening"), named("dealt"));
+    assert_eq!(with_list(&evening, &school.turns), school);
+    assert_eq!(with_list(&evening, &dealt.turns), dealt);
+    assert_eq!((evening.turns.len(), dealt.turns.len()), (0, 24));
+    let run = judged(&evening, &dealt.turns).expect("the list as it is said");
+    let answers = run.answers();
+    let codes: Vec<u8> = answers.iter().map(|answer| answer.code as u8).collect();
+    assert_eq!(codes, [FOUND, STORED, DELETED, NONE]);
+}
