@@ -7,9 +7,10 @@ use std::str::Chars;
 
 use chargefile_tests::damage::NUMBERS;
 use chargefile_tests::examples::{examples, Example};
+use chargefile_tests::job::Job;
 use chargefile_tests::key::pseudo_key;
 use chargefile_tests::run::result_bytes;
-use chargefile_tests::{check, report, tidy, Outcome};
+use chargefile_tests::{check, deal, report, tidy, Outcome};
 
 fn document() -> String {
     let path = Path::new(env!("CARGO_MANIFEST_DIR")).join("../docs/FORMAT.md");
@@ -128,6 +129,52 @@ fn the_worked_refusals_of_tidying() {
         assert_eq!(cells[3], told);
     }
     assert_eq!(rows.len(), 2 + 8, "all lines");
+}
+
+/// Job E without its turns.
+fn unturned() -> Vec<u8> {
+    let job = Job::from_bytes(&job_e());
+    Job {
+        turns: vec![],
+        ..job
+    }
+    .to_bytes()
+}
+
+#[test]
+fn the_list_of_job_e_dealt() {
+    let text = document();
+    let lines = section(&text, "### Job E, dealt");
+    let list = lines.split(|line| *line == "```").nth(1).expect("a dump");
+    let mut wanted = unturned();
+    wanted[10..12].copy_from_slice(&hex("16 00"));
+    wanted[28..32].copy_from_slice(&hex("a0 00 00 00"));
+    wanted.extend(hex(&list.join(" ")));
+    let told = deal(&unturned(), (40_988, 256, 24_576));
+    assert_eq!(told, Outcome::Done { result: wanted });
+}
+
+#[test]
+fn the_worked_refusals_of_dealing() {
+    let text = document();
+    let lines = section(&text, "### Worked refusals of dealing");
+    let rows: Vec<&&str> = lines.iter().filter(|line| line.starts_with('|')).collect();
+    for line in &rows[2..] {
+        let cells: Vec<&str> = line.split('|').map(str::trim).collect();
+        let job = [unturned(), job_e()]
+            .into_iter()
+            .find(|job| job.len().to_string() == cells[1]);
+        let lent: Vec<usize> = cells[2]
+            .split(", ")
+            .map(|n| n.parse().expect("a length"))
+            .collect();
+        let told = match deal(&job.expect("one of the two"), (lent[0], lent[1], lent[2])) {
+            Outcome::Done { result } => format!("0 0, length {}", result.len()),
+            Outcome::Refused { number, place } => format!("{number} {place}, length 0"),
+        };
+        assert_eq!(cells[3], told);
+    }
+    assert_eq!(rows.len(), 2 + 7, "all lines");
 }
 
 #[test]
