@@ -50,7 +50,7 @@ step-sound ops s i h =
       rows = step-rows ops s i ∙ h .rows;
     }
 
-pub steps-sound : (ops : List Op) (s : State) (ts : List ℕ) → Sound ops s → Sound ops (steps ops s ts)
+steps-sound : (ops : List Op) (s : State) (ts : List ℕ) → Sound ops s → Sound ops (steps ops s ts)
 steps-sound ops = steps-keep (Sound ops) ops (step-sound ops)
 
 pub start-sound : (j : Job) → FileOk (j .file) → Sound (j .ops) (start (j .file) (length (j .ops)))
@@ -144,7 +144,7 @@ module _ (ops : List Op) where
       e
 
   -- so where one is unfinished a round deals a turn: somebody can use one
-  pub round-some : (s : State) → Sound ops s → allDone s ≡ false → 0 < length (round ops s)
+  round-some : (s : State) → Sound ops s → allDone s ≡ false → 0 < length (round ops s)
   unfolding allDone round stageOf rowOf
   round-some s h e =
       let u = allOf-false _ (s .rows) gone e in
@@ -162,7 +162,7 @@ module _ (ops : List Op) where
   round-over zero i s h = refl
   round-over (suc n) i s h = if-true _ _ (ap (idle (s .locks)) (h i)) ∙ round-over n (suc i) s h
 
-  pub no-round : (s : State) → allDone s ≡ true → round ops s ≡ []
+  no-round : (s : State) → allDone s ≡ true → round ops s ≡ []
   unfolding round
   no-round s e = round-over (length ops) 0 s (all-done s e)
 
@@ -195,7 +195,7 @@ module _ (ops : List Op) where
       let z : n + suc d ≡ suc (n + d) = omega arith in
       rw (z, rounds-next (n + d) s, rounds-for n d s e, e) (append-nil (rounds n ops s))
 
-  pub rounds-more
+  rounds-more
       : (n m : ℕ) (s : State)
       → n ≤ m
       → round ops (steps ops s (rounds n ops s)) ≡ []
@@ -244,9 +244,6 @@ module _ (j : Job) (ok : FileOk (j .file)) (few : length (j .ops) ≤ maxOps) wh
   pub dealt-fits : length (dealt j) ≤ maxDealt
   dealt-fits = uses-fit (dealt j) (dealt-uses j)
 
-  pub dealt-named : Each (λ t. t < length (j .ops)) (dealt j)
-  dealt-named = uses-named (j .ops) started (dealt j) (start-sound j ok) (dealt-uses j)
-
   -- all finish, so the bound of the rounds cuts nothing off
   pub dealt-done : (i : ℕ) → stageOf (run (dealtJob j)) i ≡ Done
   unfolding run dealt dealtBy
@@ -256,11 +253,6 @@ module _ (j : Job) (ok : FileOk (j .file)) (few : length (j .ops) ≤ maxOps) wh
   unfolding run dealt dealtBy round
   dealt-whole n l =
       rounds-more (j .ops) maxDealt n started l (round-over (j .ops) (length (j .ops)) 0 _ dealt-done)
-
-  -- and for a loop: a round that deals nothing is the last, whichever it is
-  pub dealt-ends : (n : ℕ) → round (j .ops) (steps (j .ops) started (dealtBy n j)) ≡ [] → dealtBy n j ≡ dealt j
-  unfolding dealt dealtBy
-  dealt-ends n e = by-cases (decLe n maxDealt) (λ l. sym (rounds-more (j .ops) n maxDealt started l e)) (λ l. dealt-whole n (omega arith))
 
   moves : (t : ℕ) → t < length (dealt j) → idle (stateAt (dealtJob j) t .locks) (stageOf (stateAt (dealtJob j) t) (getD (dealt j) t 0)) ≡ false
   unfolding stateAt
