@@ -1,11 +1,9 @@
 -- Turns dealt for a job that is not refused, call by call: what each call asks is there, and what they come to is `Dealt`.
-use mathlib.Core.Path.{_≡_, refl, sym, ap, subst, _∙_}
-use mathlib.Core.List.{List, [], _++_, append-assoc}
-use mathlib.Core.Option.{none}
-use Prim.Native.Nat.{ℕ, _+_, _-_, _*_, _≤_}
+use mathlib.Core.Path.{_≡_, refl, sym, ap, _∙_}
+use mathlib.Core.List.{List, [], _++_}
+use Prim.Native.Nat.{ℕ, _+_, _*_, _≤_}
 use native.Mathlib.Omega.{arith}
-use lib.ListN.{length, take, drop, replicate, length-append}
-use lib.Seq.{take-append-le, drop-append-le, length-take-le, take-take, take-add, drop-at}
+use lib.ListN.{length, drop, replicate}
 use Rattle.spec.specs.Bytes.{two, four}
 use Rattle.spec.specs.Job.{headerSize, turnCountAt, totalAt, turnSize, turnsOffset, total, Header as Counts}
 use Rattle.spec.specs.Basics.{each}
@@ -16,24 +14,24 @@ use Rattle.laws.specs.Codec.Rows.{accepted-header}
 use Rattle.laws.specs.Codec.Longest.{longest, total-most}
 use Rattle.laws.specs.Codec.Tools.{every}
 use Rattle.laws.specs.Codec.Parts.{length-each}
-use Rattle.laws.specs.Codec.Sections.{length-two}
+use Rattle.laws.specs.Codec.Sections.{length-two, length-four}
 use Rattle.laws.specs.Turns.Dealing.{uses-fit, dealt-fits}
 use Rattle.laws.specs.Dealt.{none-counted, dealt-length, NotRefused, deal-said, deals-turns}
 use Rattle.run.specs.Call.{lent}
 use Rattle.run.specs.Table.{Accepts}
-use Rattle.run.proofs.Known.{proper, heads, ops-are}
+use Rattle.run.proofs.Known.{proper, heads}
 use Rattle.run.proofs.Begins.{begun}
 use Rattle.rounds.proofs.Follows.{Follows, gives-all, follows-rounds, follows-none}
 use Rattle.header.specs.declared.Header.{Header}
 use Rattle.header.specs.Counts.{countsOf, Heads}
 use Rattle.wire.specs.Over.{over}
-use Rattle.wire.specs.OverLaws.{over-parts, over-front, over-swap, length-over}
-use Rattle.wire.specs.Joined.{over-before}
+use Rattle.wire.specs.OverLaws.{length-over}
 use Rattle.memory.specs.Load.{loaded}
 use Rattle.turn.specs.declared.Row.{Row}
 use Rattle.turn.specs.Rows.{blankRow}
 use Rattle.reader.specs.Parts.{directoryIn, tableIn}
-use Rattle.rounds.specs.Dealing.{Dealing, dealing, roundsOn, GivesAll}
+use Rattle.rounds.specs.OnTable.{Dealing, dealing, roundsOn, GivesAll}
+use Rattle.deal.proofs.Fields.{fields}
 use Rattle.deal.specs.Call.{Accepted, Dealt}
 
 -- the memory that `load` leaves, and what the rounds begin with: a blank table, the output as it came
@@ -63,42 +61,6 @@ pub record Deals (b s : List ℕ) (x : List Row) (w : List ℕ) (h : Header) : T
       × (t ≡ over (over (over (u .out) 0 b) turnCountAt (two (u .turns))) totalAt (four v))
       × (z ≡ replicate (length (u .work)) 0)
       → Dealt b s t x y w z v
-
-four-bytes : (n : ℕ) → length (four n) ≡ 4
-unfolding four two
-four-bytes n = refl
-
--- some bytes in x are written anew
-anew : (x y z : List ℕ) (at : ℕ) → at + length y ≤ length x → over (x ++ z) at y ≡ take at x ++ (y ++ (drop (at + length y) x ++ z))
-anew x y z at l =
-    over-parts y (x ++ z) at (rw length-append (omega arith))
-    ∙ rw (take-append-le at x z (omega arith), drop-append-le (at + length y) x z l)
-
--- a job b whose turn list l stands behind it in the buffer, with two fields of its header written: what the buffer is then
-module _ (b l s p q : List ℕ) (lb : headerSize ≤ length b) (ls : length b + length l ≤ length s) (lp : length p ≡ 2) (lq : length q ≡ 4) where
-  abbrev behind : List ℕ
-  behind = l ++ drop (length b + length l) s
-
-  stands : over (over s (length b) l) 0 b ≡ b ++ behind
-  stands =
-      over-before s b l 0 (length b) (omega arith)
-      ∙ over-front (b ++ l) s (rw length-append ls)
-      ∙ rw (length-append b l) (append-assoc b l _)
-
-  fields
-      : over (over (over (over s (length b) l) 0 b) turnCountAt p) totalAt q
-      ≡ (take turnCountAt b ++ p ++ take (totalAt - (turnCountAt + 2)) (drop (turnCountAt + 2) b) ++ q ++ drop headerSize b ++ l)
-      ++ drop (length b + length l) s
-  fields =
-      ap (λ (t : List ℕ). over (over t turnCountAt p) totalAt q) stands
-      ∙ sym (over-swap p q (b ++ behind) turnCountAt totalAt (omega arith))
-      ∙ ap (λ (t : List ℕ). over t turnCountAt p) (anew b q behind totalAt (omega arith))
-      ∙ anew (take totalAt b) p _ turnCountAt (omega (arith, length-take-le totalAt b (omega arith)))
-      ∙ rw (lp, lq, take-take turnCountAt totalAt b (omega arith), middle) (simp append-assoc)
-    where
-      middle : drop 12 (take totalAt b) ≡ take 16 (drop 12 b)
-      middle =
-          ap (drop 12) (take-add 12 16 b) ∙ drop-at (take 12 b) (take 16 (drop 12 b)) 12 (length-take-le 12 b (omega arith))
 
 module _ {b s : List ℕ} {x : List Row} {w : List ℕ} (a : Accepted b s x w) where
   lends : NotRefused (lent s x w) b
@@ -137,13 +99,16 @@ module _ {b s : List ℕ} {x : List Row} {w : List ℕ} (a : Accepted b s x w) w
     short : length list ≤ maxDealt
     short = dealt-fits (jobOf b) (proper o .file) (proper o .opCount)
 
+    many : length (each two list) ≡ turnSize * length list
+    many = length-each two turnSize list (every length-two list)
+
+    size : length (dealtBytes b) ≡ length b + turnSize * length list
+    size = dealt-length b (a .bytes) (lends .accepted) (lends .unturned)
+
     -- where the rounds have led
     module _ (u : Dealing) (is : u ≡ roundsOn h b maxDealt (first h b s x w)) where
       led : Follows h b s list u
       led = rw is follows-all
-
-      many : length (each two list) ≡ turnSize * length list
-      many = length-each two turnSize list (every length-two list)
 
       close-asks : (headerSize ≤ length b) × (length b ≤ longest) × (u .turns ≤ maxDealt) × (length b + turnSize * u .turns ≤ length (u .out))
       close-asks =
@@ -151,13 +116,16 @@ module _ {b s : List ℕ} {x : List Row} {w : List ℕ} (a : Accepted b s x w) w
           (read-asks, rw (heads o .size) (total-most (countsOf h) (heads o .limits)), short, rw (led .out, length-over) (omega (arith, lends .output, short)))
 
       -- the buffer in the end
-      written : (v : ℕ) → v ≡ length b + turnSize * u .turns → over (over (over (u .out) 0 b) turnCountAt (two (u .turns))) totalAt (four v) ≡ dealtBytes b ++ drop (length (dealtBytes b)) s
+      written
+          : (v : ℕ)
+          → v ≡ length b + turnSize * u .turns
+          → over (over (over (u .out) 0 b) turnCountAt (two (u .turns))) totalAt (four v) ≡ dealtBytes b ++ drop (length (dealtBytes b)) s
       written v g =
           let z : v ≡ length b + turnSize * length list = rw (led .turns) at g in
-          let m : length b + length (each two list) ≡ length (dealtBytes b) = omega (arith, many, dealt-length b (a .bytes) (lends .accepted) (lends .unturned)) in
+          let m : length b + length (each two list) ≡ length (dealtBytes b) = omega (arith, many, size) in
           let same = deals-turns b (a .bytes) (lends .accepted) (lends .unturned) .bytes in
           rw (led .turns, led .out, ends-at)
-          (fields b (each two list) s (two (length list)) (four v) read-asks (omega (arith, many, short, lends .output)) (length-two _) (four-bytes _)
+          (fields b (each two list) s (two (length list)) (four v) read-asks (omega (arith, many, short, lends .output)) (length-two _) (length-four _)
           ∙ rw (z, m) (ap (λ (t : List ℕ). t ++ drop (length (dealtBytes b)) s) (sym same)))
 
     pub deals : Deals b s x w h
@@ -169,9 +137,8 @@ module _ {b s : List ℕ} {x : List Row} {w : List ℕ} (a : Accepted b s x w) w
               (gives-all o s room _ _ f, rw (f .turns) (uses-fit (jobOf b) (proper o .file) (proper o .opCount) _ (f .uses)));
           close = close-asks;
           all = λ u is lx lw ey c.
-              let n : length b + turnSize * u .turns ≡ length (dealtBytes b) = rw (led u is .turns) (sym (dealt-length b (a .bytes) (lends .accepted) (lends .unturned))) in
               record {
-                total = c .0 ∙ n;
+                total = c .0 ∙ rw (led u is .turns) (sym size);
                 output = c .1 ∙ written u is _ (c .0);
                 rows = ey ∙ ap (λ (k : ℕ). replicate k blankRow) lx;
                 work = c .2 ∙ ap (λ (k : ℕ). replicate {A = ℕ} k 0) lw;

@@ -1,7 +1,7 @@
 -- What a call comes to: refused, with nothing written, or turns dealt.
 use mathlib.Core.Path.{_≡_, refl, sym, _∙_}
 use mathlib.Core.List.{List}
-use mathlib.Core.Bool.{false}
+use mathlib.Core.Bool.{false, true≢false}
 use mathlib.Core.Option.{Option, none, some}
 use Prim.Native.Nat.{ℕ}
 use borrow.Author.Tests.{eq-eqb, ne-eqb}
@@ -20,7 +20,7 @@ use Rattle.turn.specs.declared.Row.{Row}
 use Rattle.simulation.specs.RowBack.{blank-row}
 use Rattle.run.specs.Answer.{isAccepted, refusedBy}
 use Rattle.run.specs.Call.{lent}
-use Rattle.run.proofs.Ends.{blank-stage, at-place, nowhere, some-none, true-false}
+use Rattle.run.proofs.Ends.{blank-stage, at-place, nowhere, some-none}
 use Rattle.deal.specs.Call.{Accepted, Dealt, Settled}
 
 -- ---- what the rows of the refusal table tell, and the rows 21 and 11 of dealing
@@ -77,7 +77,7 @@ refused-by
     → isAccepted (checkedOf f) ≡ false
     → Settled b s s x x w w (refusedBy (checkedOf f))
 unfolding isAccepted refusedBy checkedOf dealOutcome outcomeBy dealBuffer bufferBy dealRows rowsBy dealWork workBy afterCall
-refused-by b s x w none q e = absurd (true-false e)
+refused-by b s x w none q e = absurd (true≢false e)
 refused-by b s x w (some f) q e =
     record { answer = rw q; output = rw q; rows = rw q; work = rw q; fixed = (sym blank-row, blank-stage); dealt = λ z. absurd (some-none (sym q ∙ z)) }
 

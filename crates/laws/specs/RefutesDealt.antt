@@ -14,8 +14,9 @@ use Rattle.spec.specs.Dealt.{DealtWritten}
 use Rattle.laws.specs.Tools.{isSome}
 use Rattle.laws.specs.Codec.Quiet.{no-member}
 use Rattle.laws.specs.Refutes.{is-not, is-or, eqb-same, every-true, same-true, says-done, says-waits}
+use Rattle.laws.specs.Weighed.{isDone}
 use Rattle.laws.specs.RefutesRounds.{lacksNothing-true}
-use Rattle.laws.specs.WeighedDealt.{everyTurn, noWait, unfinished, fits, whole, empty, accepted, says, bytes, complete}
+use Rattle.laws.specs.WeighedDealt.{everyTurn, noWait, unfinished, fits, done, whole, empty, accepted, says, bytes, complete}
 
 -- The fields, in the claim's order.
 module _ (b : List ℕ) (e : DealtWritten b) where
@@ -30,6 +31,10 @@ module _ (b : List ℕ) (e : DealtWritten b) where
   fits-true : fits b ≡ true
   unfolding fits
   fits-true = le-leb _ _ (e .list .fits)
+
+  done-true : done b ≡ true
+  unfolding done isDone
+  done-true = every-true _ _ (λ i l. ap isDone (e .list .done i l))
 
   whole-true : whole b ≡ true
   unfolding whole
@@ -60,10 +65,11 @@ module _ (b : List ℕ) (e : DealtWritten b) where
       : (noWait b ≡ true)
       × (unfinished b ≡ true)
       × (fits b ≡ true)
+      × (done b ≡ true)
       × (whole b ≡ true)
       × (empty b ≡ true)
       × (accepted b ≡ true)
       × (says b ≡ true)
       × (bytes b ≡ true)
       × (complete b ≡ true)
-  dealt-passes = (noWait-true, unfinished-true, fits-true, whole-true, empty-true, accepted-true, says-true, bytes-true, complete-true)
+  dealt-passes = (noWait-true, unfinished-true, fits-true, done-true, whole-true, empty-true, accepted-true, says-true, bytes-true, complete-true)

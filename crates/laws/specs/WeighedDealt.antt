@@ -16,7 +16,7 @@ use Rattle.spec.specs.Job.{Job, headerSize, turnCountAt, totalAt, turnSize}
 use Rattle.spec.specs.Encode.{encodeJob}
 use Rattle.spec.specs.Decode.{jobOf}
 use Rattle.spec.specs.State.{State}
-use Rattle.spec.specs.Run.{stageOf}
+use Rattle.spec.specs.Run.{stageOf, run}
 use Rattle.spec.specs.Result.{readResult}
 use Rattle.spec.specs.Check.{jobFault}
 use Rattle.spec.specs.Outcome.{resultBytes}
@@ -40,10 +40,15 @@ noWait b = everyTurn (dealtJob (jobOf b)) (λ s i. not (waits s i))
 unfoldable pub unfinished : List ℕ → Bool
 unfinished b = everyTurn (dealtJob (jobOf b)) (λ s i. not (isDone (stageOf s i)))
 
--- are there no more turns than are allowed? Would twice as many rounds deal the same?
+-- are there no more turns than are allowed?
 unfoldable pub fits : List ℕ → Bool
 fits b = leb (length (dealt (jobOf b))) maxDealt
 
+-- have all finished in the end?
+unfoldable pub done : List ℕ → Bool
+done b = every (length (jobOf b .ops)) (λ i. isDone (stageOf (run (dealtJob (jobOf b))) i))
+
+-- would twice as many rounds deal the same?
 unfoldable pub whole : List ℕ → Bool
 whole b = same eqb (dealtBy (2 * maxDealt) (jobOf b)) (dealt (jobOf b))
 
@@ -108,6 +113,10 @@ unfinished-passes = refl
 fits-passes : Passes fits
 unfolding asked fits
 fits-passes = refl
+
+done-passes : Passes done
+unfolding asked done
+done-passes = refl
 
 whole-passes : Passes whole
 unfolding asked whole

@@ -5,14 +5,14 @@ use mathlib.Core.List.{List, [], _∷_, _++_, append-assoc, append-nil}
 use mathlib.Core.Bool.{Bool, true, false}
 use Prim.Native.Nat.{ℕ, zero, suc, _+_, _*_, _≤_, _<_}
 use native.Mathlib.Omega.{arith}
-use lib.ListN.{length, getD, length-append}
+use lib.ListN.{length, length-append}
 use lib.Seq.{take-append-seam, take-length, getD-append-seam}
-use Rattle.spec.specs.Basics.{if, each}
+use Rattle.spec.specs.Basics.{each}
 use Rattle.spec.specs.Bytes.{two}
 use Rattle.spec.specs.Job.{Job, turnsOffset, turnSize}
 use Rattle.spec.specs.Decode.{jobOf}
 use Rattle.spec.specs.State.{State}
-use Rattle.spec.specs.Run.{stageOf, idle, step, start, steps}
+use Rattle.spec.specs.Run.{stageOf, idle, start, steps}
 use Rattle.spec.specs.Claims.{stateAt}
 use Rattle.spec.specs.Deal.{maxDealt, roundFrom, round, rounds}
 use Rattle.laws.specs.Tools.{if-true, if-false}
@@ -21,7 +21,7 @@ use Rattle.laws.specs.Codec.Parts.{length-each, each-snoc}
 use Rattle.laws.specs.Codec.Sections.{length-two}
 use Rattle.laws.specs.Codec.Proper.{JobProper}
 use Rattle.laws.specs.Turns.States.{steps-append, stateAt-zero}
-use Rattle.laws.specs.Turns.Dealing.{Uses, stop, used, uses-append, uses-fit, round-next, rounds-next}
+use Rattle.laws.specs.Turns.Dealing.{Uses, stop, used, uses-append, uses-fit, turnFor, round-next, rounds-next}
 use Rattle.laws.specs.Dealt.{uses-proper}
 use Rattle.header.specs.declared.Header.{Header}
 use Rattle.header.specs.Counts.{countsOf}
@@ -35,23 +35,23 @@ use Rattle.table.specs.Turns.{both, Moves}
 use Rattle.run.specs.Table.{shapeFor, Accepts, Running}
 use Rattle.run.proofs.Known.{proper, heads, ops-are, shape-is}
 use Rattle.run.proofs.Turned.{OpsStand, stand, moves, moved}
-use Rattle.rounds.specs.Dealing.{Dealing, rowFor, isPassed, nextPlace, giveTo, Gives, giveUpTo, roundOn, roundsOn, GivesAll}
+use Rattle.rounds.specs.OnTable.{Dealing, rowFor, isPassed, nextPlace, giveTo, Gives, giveUpTo, roundsOn, GivesAll}
 
 -- the job of the bytes b with the turn list ts
 abbrev with : List ℕ → List ℕ → Job
 with b ts = record { file = jobOf b .file; ops = jobOf b .ops; turns = ts }
 
 -- the machine where it starts, and after the turns ts
-abbrev begun : List ℕ → State
-begun b = start (jobOf b .file) (length (jobOf b .ops))
+abbrev started : List ℕ → State
+started b = start (jobOf b .file) (length (jobOf b .ops))
 
 abbrev after : List ℕ → List ℕ → State
-after b ts = steps (jobOf b .ops) (begun b) ts
+after b ts = steps (jobOf b .ops) (started b) ts
 
 -- what is dealt follows the list ts: its turns are all used, so many are counted, they stand behind the job in the buffer, which was s, and the
 -- table and the memory show the job after them
 pub record Follows (h : Header) (b s ts : List ℕ) (u : Dealing) : Type 0 where
-  pub uses : Uses (jobOf b .ops) (begun b) ts
+  pub uses : Uses (jobOf b .ops) (started b) ts
   pub turns : u .turns ≡ length ts
   pub out : u .out ≡ over s (turnsOffset (countsOf h)) (each two ts)
   pub running : Running (with b ts) (length ts) (both (u .rows) (u .work))
@@ -66,17 +66,17 @@ module _ {h : Header} {b : List ℕ} (a : Accepts h b) (s : List ℕ) (room : tu
   unfolding stateAt
   before-is ts us = rw (take-append-seam ts us)
 
-  proper-with : (ts : List ℕ) → Uses (jobOf b .ops) (begun b) ts → JobProper (with b ts)
+  proper-with : (ts : List ℕ) → Uses (jobOf b .ops) (started b) ts → JobProper (with b ts)
   proper-with ts u = uses-proper (jobOf b) (proper a) ts u
 
-  few : (ts : List ℕ) → Uses (jobOf b .ops) (begun b) ts → length ts ≤ maxDealt
+  few : (ts : List ℕ) → Uses (jobOf b .ops) (started b) ts → length ts ≤ maxDealt
   few ts u = uses-fit (jobOf b) (proper a .file) (proper a .opCount) ts u
 
   module _ (ts : List ℕ) (u : Dealing) (f : Follows h b s ts u) (i : ℕ) (l : i < length (jobOf b .ops)) where
     is-steady : Steady (jobOf b .ops) (stateAt (with b ts) (length ts))
     is-steady = steady (with b ts) (proper-with ts (f .uses)) (length ts) (omega arith)
 
-    pub passed-is : isPassed u i ≡ idle (after b ts .locks) (stageOf (after b ts) i)
+    passed-is : isPassed u i ≡ idle (after b ts .locks) (stageOf (after b ts) i)
     passed-is =
         rw (f .running .table i l, ← now-is ts)
         (idles-is (jobOf b .ops) (stateAt (with b ts) (length ts)) i (u .work) is-steady (f .running .shown))
@@ -89,8 +89,8 @@ module _ {h : Header} {b : List ℕ} (a : Accepts h b) (s : List ℕ) (room : tu
       abbrev more : List ℕ
       more = ts ++ (i ∷ [])
 
-      uses-more : Uses (jobOf b .ops) (begun b) more
-      uses-more = uses-append (jobOf b .ops) (begun b) ts (i ∷ []) (f .uses) (used e stop)
+      uses-more : Uses (jobOf b .ops) (started b) more
+      uses-more = uses-append (jobOf b .ops) (started b) ts (i ∷ []) (f .uses) (used e stop)
 
       many : length more ≡ length ts + 1
       many = length-append ts (i ∷ [])
@@ -134,7 +134,7 @@ module _ {h : Header} {b : List ℕ} (a : Accepts h b) (s : List ℕ) (room : tu
           })
 
     -- operation i of a round: what that asks, and what comes of it
-    pub gives : Gives h b i u
+    gives : Gives h b i u
     gives =
         record {
           heads = heads a;
@@ -145,14 +145,14 @@ module _ {h : Header} {b : List ℕ} (a : Accepts h b) (s : List ℕ) (room : tu
           room = λ e. fits (sym passed-is ∙ e);
         }
 
-    follows-one : Follows h b s (ts ++ if (idle (after b ts .locks) (stageOf (after b ts) i)) [] (i ∷ [])) (giveTo h b i u)
+    follows-one : Follows h b s (ts ++ turnFor i (after b ts)) (giveTo h b i u)
     unfolding giveTo
     follows-one = by (idle (after b ts .locks) (stageOf (after b ts) i)) refl
       where
         by
             : (c : Bool)
             → idle (after b ts .locks) (stageOf (after b ts) i) ≡ c
-            → Follows h b s (ts ++ if (idle (after b ts .locks) (stageOf (after b ts) i)) [] (i ∷ [])) (giveTo h b i u)
+            → Follows h b s (ts ++ turnFor i (after b ts)) (giveTo h b i u)
         by true e = rw (if-true [] (i ∷ []) e, append-nil ts, if-true u _ (passed-is ∙ e)) f
         by false e = rw (if-false [] (i ∷ []) e) (given e)
 
@@ -168,7 +168,7 @@ module _ {h : Header} {b : List ℕ} (a : Accepts h b) (s : List ℕ) (room : tu
   follows-some ts u f (suc k) l =
       let r = roundFrom (jobOf b .ops) k 0 (after b ts) in
       let one = follows-one (ts ++ r) (giveUpTo h b k u) (follows-some ts u f k (omega arith)) k (omega arith) in
-      rw (round-next (jobOf b .ops) k (after b ts), ← append-assoc ts r _, ← steps-append (jobOf b .ops) (begun b) ts r) one
+      rw (round-next (jobOf b .ops) k (after b ts), ← append-assoc ts r _, ← steps-append (jobOf b .ops) (started b) ts r) one
 
   pub gives-all : (ts : List ℕ) (u : Dealing) → Follows h b s ts u → GivesAll h b u
   gives-all ts u f k l =
@@ -180,16 +180,16 @@ module _ {h : Header} {b : List ℕ} (a : Accepts h b) (s : List ℕ) (room : tu
       : (u : Dealing)
       → Follows h b s [] u
       → (n : ℕ)
-      → Follows h b s (rounds n (jobOf b .ops) (begun b)) (roundsOn h b n u)
+      → Follows h b s (rounds n (jobOf b .ops) (started b)) (roundsOn h b n u)
   unfolding rounds roundsOn round
   follows-rounds u f zero = f
   follows-rounds u f (suc n) =
-      let ts = rounds n (jobOf b .ops) (begun b) in
+      let ts = rounds n (jobOf b .ops) (started b) in
       let all = follows-some ts (roundsOn h b n u) (follows-rounds u f n) (length (jobOf b .ops)) (omega arith) in
-      rw (rounds-next (jobOf b .ops) n (begun b))
+      rw (rounds-next (jobOf b .ops) n (started b))
       (subst (λ (k : ℕ). Follows h b s (ts ++ round (jobOf b .ops) (after b ts)) (giveUpTo h b k (roundsOn h b n u))) (ops-are a) all)
 
-  -- a round begins with no turn, when the table and the memory show the job as it came in
+  -- the rounds begin with no turn dealt, when the table and the memory show the job as it came in
   pub follows-none : (u : Dealing) → u .turns ≡ 0 → u .out ≡ s → Running (jobOf b) 0 (both (u .rows) (u .work)) → Follows h b s [] u
   unfolding each
   follows-none u t o r =

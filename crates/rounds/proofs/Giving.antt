@@ -1,4 +1,5 @@
--- An operation of a round: what it asks of the two functions that `give` calls, and that what they leave is what it does to the table, the buffer, the memory and the count.
+-- An operation of a round: what it asks of the two functions that `give` calls, and that what they leave is what it does to the table, the buffer,
+-- the memory and the count.
 use Prim.Native.Nat.{ℕ, _+_, _<_, _≤_}
 use mathlib.Core.Path.{_≡_, refl, ap, _∙_}
 use mathlib.Core.List.{List}
@@ -23,7 +24,7 @@ use Rattle.turn.specs.Safe.{Lockable}
 use Rattle.reader.specs.Parts.{opsIn}
 use Rattle.table.specs.Turns.{movedOn, Moves, turnOn}
 use Rattle.run.specs.Table.{shapeFor}
-use Rattle.rounds.specs.Dealing.{Dealing, dealing, rowFor, isPassed, nextPlace, giveTo, Gives}
+use Rattle.rounds.specs.OnTable.{Dealing, dealing, rowFor, isPassed, nextPlace, giveTo, Gives}
 
 -- ---- what is asked
 

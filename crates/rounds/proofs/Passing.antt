@@ -5,7 +5,7 @@ use Prim.Native.Nat.{ℕ, _+_}
 use native.Mathlib.Numerals.{add-one}
 use lib.ListN.{length}
 use Rattle.header.specs.declared.Header.{Header}
-use Rattle.rounds.specs.Dealing.{Dealing, giveTo, giveUpTo}
+use Rattle.rounds.specs.OnTable.{Dealing, giveTo, giveUpTo}
 
 -- table, output and memory are as long as they were
 abbrev pub Same : Dealing → Dealing → Type 0

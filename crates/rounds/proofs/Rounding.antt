@@ -1,4 +1,5 @@
--- Rounds, one after another: the count of turns never falls, a round that deals no turn changes nothing, and so nothing changes from there on; and how long `rounds` goes on.
+-- Rounds, one after another: the count of turns never falls, a round that deals no turn changes nothing, and so nothing changes from there on; and
+-- how long `rounds` goes on.
 use Prim.Native.Nat.{ℕ, zero, suc, _+_, _-_, _≤_, _<_, _^_}
 use mathlib.Core.Path.{_≡_, refl, sym, ap, subst, _∙_}
 use mathlib.Core.Logic.{by-cases}
@@ -9,15 +10,10 @@ use native.Mathlib.Nat.{le-trans}
 use native.Mathlib.Numerals.{add-one}
 use native.Mathlib.Omega.{arith}
 use lib.Dec.{T, ltb, ltb→lt, nltb→le}
-use lib.ListN.{length}
 use Rattle.spec.specs.Deal.{maxDealt}
 use Rattle.laws.specs.Tools.{if-case}
 use Rattle.header.specs.declared.Header.{Header}
-use Rattle.rounds.specs.Dealing.{Dealing, giveTo, giveUpTo, roundOn, roundsOn}
-
--- the lengths that a call leaves as they were
-abbrev pub Same : Dealing → Dealing → Type 0
-Same u v = (length (u .rows) ≡ length (v .rows)) × (length (u .out) ≡ length (v .out)) × (length (u .work) ≡ length (v .work))
+use Rattle.rounds.specs.OnTable.{Dealing, giveTo, giveUpTo, roundOn, roundsOn}
 
 -- ---- the count of turns
 

@@ -19,7 +19,7 @@ ghost use Rattle.turn.specs.Safe.{Lockable};
 ghost use Rattle.reader.specs.Parts.{opsIn};
 ghost use Rattle.table.specs.Turns.{Moves, movedOn};
 ghost use Rattle.run.specs.Table.{shapeFor};
-ghost use Rattle.rounds.specs.Dealing.{dealing, nextPlace, giveTo, Gives, roundOn, roundsOn, GivesAll};
+ghost use Rattle.rounds.specs.OnTable.{dealing, nextPlace, giveTo, Gives, roundOn, roundsOn, GivesAll};
 
 // ---- one operation
 

@@ -1,11 +1,12 @@
 -- What a call comes to: refused, with nothing written, or run.
 use mathlib.Core.Path.{_≡_, refl, sym, ap, _∙_}
-use mathlib.Core.Bool.{true, false}
+use mathlib.Core.Bool.{Bool, true, false, not, true≢false}
 use mathlib.Core.List.{List}
 use mathlib.Core.Option.{Option, none, some}
 use Prim.Native.Nat.{ℕ, _≤_}
 use native.Mathlib.Omega.{arith}
 use lib.ListN.{length, drop}
+use lib.Dec as dec
 use Rattle.spec.specs.declared.Spot.the-variants.{At, Nowhere}
 use Rattle.spec.specs.declared.Stage.the-variants.{NotBegun}
 use Rattle.spec.specs.declared.Checked.the-variants.{Accepted as AcceptedBy, Refused as RefusedBy}
@@ -67,18 +68,24 @@ module _ (l : Lent) (b : List ℕ) where
 pub some-none : {f : Fault} → some f ≡ none → ⊥
 some-none e = let z : _≡_ {A = ℕ} 0 1 = cc in omega arith
 
-pub true-false : true ≡ false → ⊥
-true-false e = let z : _≡_ {A = ℕ} 0 1 = cc in omega arith
+-- what a branch that was taken says of its test
+pub is-true : (y : Bool) → dec.T y → y ≡ true
+is-true true h = refl
+is-true false h = absurd h
+
+pub is-false : (y : Bool) → dec.T (not y) → y ≡ false
+is-false true h = absurd h
+is-false false h = refl
 
 pub accepted-none : (f : Option Fault) → isAccepted (checkedOf f) ≡ true → f ≡ none
 unfolding isAccepted checkedOf
 accepted-none none e = refl
-accepted-none (some f) e = absurd (true-false (sym e))
+accepted-none (some f) e = absurd (true≢false (sym e))
 
 -- ---- a job that meets no row
 
 -- row 11 does not hold: what is lent is enough
-pub enough-for : (size : ℕ) (l : Lent) (b : List ℕ) → smallFor size l b ≡ none → (size ≤ l .output) × (headerOf b .ops ≤ l .rows) × (workSize ≤ l .work)
+enough-for : (size : ℕ) (l : Lent) (b : List ℕ) → smallFor size l b ≡ none → (size ≤ l .output) × (headerOf b .ops ≤ l .rows) × (workSize ≤ l .work)
 unfolding smallFor
 enough-for size l b e = let z = simp (failed, among-none, among-end) at e in (z .0, z .1 .0, z .1 .1 .0)
 
@@ -135,7 +142,7 @@ refused-by
     → isAccepted (checkedOf f) ≡ false
     → Settled b s s x x w w (refusedBy (checkedOf f))
 unfolding isAccepted refusedBy checkedOf outcome outcomeBy bufferBy bufferAfter rowsBy rowsAfter workBy workAfter afterCall
-refused-by b s x w none q e = absurd (true-false e)
+refused-by b s x w none q e = absurd (true≢false e)
 refused-by b s x w (some f) q e =
     record { answer = rw q; result = rw q; rows = rw q; work = rw q; fixed = (sym blank-row, blank-stage); written = λ z. absurd (some-none (sym q ∙ z)) }
 

@@ -36,7 +36,8 @@ unfoldable pub allDone : State → Bool
 allDone s = allOf (λ (r : Row). isDone (r .stage)) (s .rows)
 
 -- "by rising operation number: each unfinished operation gets one turn, and one that would only wait at that moment is passed over until the
--- next round": the turns that a round deals to the n operations from i on. Who would wait is asked of the state after the turns dealt so far
+-- next round": the turns that a round deals to the n operations from i on. Who is idle, because it would wait or is finished, is asked of the state
+-- after the turns dealt so far
 unfoldable pub roundFrom : List Op → ℕ → ℕ → State → List ℕ
 roundFrom ops zero i s = []
 roundFrom ops (suc n) i s =

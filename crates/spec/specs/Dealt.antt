@@ -8,11 +8,12 @@ use Rattle.spec.specs.Basics.{each}
 use Rattle.spec.specs.Bytes.{two, four, AreBytes}
 use Rattle.spec.specs.Job.{Job, headerSize, turnCountAt, totalAt, turnSize}
 use Rattle.spec.specs.Decode.{jobOf}
+use Rattle.spec.specs.Run.{run}
 use Rattle.spec.specs.Result.{readResult}
 use Rattle.spec.specs.Outcome.{resultBytes}
 use Rattle.spec.specs.Deal.{maxDealt, dealtBy, dealt, dealtJob, dealtBytes, turnsPresent}
 use Rattle.spec.specs.Claims.{stateAt, Unfinished, Waits, Accepted}
-use Rattle.spec.specs.Rounds.{Complete}
+use Rattle.spec.specs.Rounds.{AllDone, Complete}
 
 -- What is claimed of the list that is dealt for the job j.
 pub record DealtWell (j : Job) : Type 0 where
@@ -21,7 +22,9 @@ pub record DealtWell (j : Job) : Type 0 where
   pub unfinished : (t : ℕ) → t < length (dealt j) → Unfinished (stateAt (dealtJob j) t) (getD (dealt j) t 0)
   -- "The list never has more than 10,238 turns, so it fits every job's limit"
   pub fits : length (dealt j) ≤ maxDealt
-  -- "It stops when all have finished", and not before: more rounds would deal the same list
+  -- "It stops when all have finished"
+  pub done : AllDone j (run (dealtJob j))
+  -- and for no other reason: with more rounds than there may be the list would be the same
   pub whole : (n : ℕ) → maxDealt ≤ n → dealtBy n j ≡ dealt j
   -- "a job without operations gets an empty list"
   pub empty : j .ops ≡ [] → dealt j ≡ []

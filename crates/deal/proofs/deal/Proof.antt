@@ -3,7 +3,7 @@
 -- All that the proof knows of the functions that are called is that they meet their contracts.
 -- Assumes nothing.
 use mathlib.Core.Path.{_≡_, refl, sym, _∙_, ap, subst}
-use mathlib.Core.Bool.{Bool, true, false, not}
+use mathlib.Core.Bool.{Bool, not}
 use Prim.Native.Nat.{ℕ}
 use mathlib.Core.List.{[], _∷_, List}
 use lib.Dec as dec
@@ -51,7 +51,7 @@ use Rattle.turn.specs.declared.Row.{Row}
 use Rattle.turn.proofs.Row as T
 use Rattle.run.specs.Answer.{isAccepted, refusedBy, doneFor}
 use Rattle.run.specs.Call.{lent}
-use Rattle.run.proofs.Ends.{accepted-none}
+use Rattle.run.proofs.Ends.{is-true, is-false, accepted-none}
 use Rattle.run.proofs.Lent.{job-ty, result-ty as out-ty, rows-ty, work-ty, Params, Values}
 use Rattle.run.proofs.is_accepted as is-acc
 use Rattle.run.proofs.done as done′
@@ -72,14 +72,6 @@ abbrev stayed : Stays (fn′.ended .signature .params) (fn′.ended .kept)
 stayed = (stay-dropped (shrSliceOf (0 ∷ []) tt (plain (λ _. u8))) yes, (gave-slice (1 ∷ []) tt (plain (λ _. u8)), (gave-slice (2 ∷ []) tt (plain (λ _. T.the-row)), (gave-slice (3 ∷ []) tt (plain (λ _. u8)), tt))))
 
 -- ---- what the answers come to
-is-true : (y : Bool) → dec.T y → y ≡ true
-is-true true h = refl
-is-true false h = absurd h
-
-is-false : (y : Bool) → dec.T (not y) → y ≡ false
-is-false true h = absurd h
-is-false false h = refl
-
 module _ (b s : List ℕ) (x : List Row) (w : List ℕ) where
   -- what `check_all` says of its answer
   abbrev Says : Checked → Type 0

@@ -57,7 +57,7 @@ use Rattle.table.proofs.fill as fill
 use Rattle.run.proofs.Headers.{headerVal, IsHeader, header-tells, header-is, header-typed, own-header}
 use Rattle.run.proofs.Lent.{job-ty, result-ty as out-ty, rows-ty, work-ty, Params, Values}
 use Rattle.run.proofs.load as load-fn
-use Rattle.rounds.specs.Dealing.{Dealing, dealing, roundsOn, GivesAll}
+use Rattle.rounds.specs.OnTable.{Dealing, dealing, roundsOn, GivesAll}
 use Rattle.rounds.proofs.rounds as rounds-fn
 use Rattle.deal.specs.Call.{Accepted, Dealt}
 use Rattle.deal.proofs.Accepting.{Deals, work₁, first as begin, read-asks, deals}

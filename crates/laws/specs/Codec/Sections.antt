@@ -23,6 +23,10 @@ pub length-two : (n : ℕ) → length (two n) ≡ 2
 unfolding two
 length-two n = refl
 
+pub length-four : (n : ℕ) → length (four n) ≡ 4
+unfolding four two
+length-four n = refl
+
 pub length-header : (h : Header) → length (headerBytes h) ≡ headerSize
 unfolding headerBytes two four
 length-header h = refl

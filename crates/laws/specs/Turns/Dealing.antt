@@ -6,7 +6,7 @@ use mathlib.Core.List.{List, [], _∷_, _++_, append-assoc, append-nil}
 use mathlib.Core.Bool.{true, false, true≢false, false≢true}
 use native.Mathlib.Omega.{arith}
 use native.Mathlib.Nat.{mul-le-mul-right}
-use native.Mathlib.Decide.{ℕ-discrete, decLt, decLe}
+use native.Mathlib.Decide.{ℕ-discrete, decLt}
 use lib.ListN.{length, getD, take}
 use lib.Pow.{pow-mono}
 use Rattle.spec.specs.declared.Op.{Op}
@@ -41,7 +41,7 @@ pub record Sound (ops : List Op) (s : State) : Type 0 where
   pub settled : Settled ops s
   pub rows : length (s .rows) ≡ length ops
 
-pub step-sound : (ops : List Op) (s : State) (i : ℕ) → Sound ops s → Sound ops (step ops s i)
+step-sound : (ops : List Op) (s : State) (i : ℕ) → Sound ops s → Sound ops (step ops s i)
 step-sound ops s i h =
     record {
       good = step-good ops s i (h .good);
@@ -70,13 +70,13 @@ module _ (ops : List Op) where
   uses-append s (t ∷ ts) us (used e h) k = used e (uses-append (step ops s t) ts us h k)
 
   -- so are the turns of a round, and of as many of its operations as have been asked; and those of rounds
-  pub round-uses : (n i : ℕ) (s : State) → Uses ops s (roundFrom ops n i s)
+  round-uses : (n i : ℕ) (s : State) → Uses ops s (roundFrom ops n i s)
   unfolding roundFrom
   round-uses zero i s = stop
   round-uses (suc n) i s =
       if-case (Uses ops s) (λ e. round-uses n (suc i) s) (λ e. used e (round-uses n (suc i) (step ops s i)))
 
-  pub rounds-uses : (n : ℕ) (s : State) → Uses ops s (rounds n ops s)
+  rounds-uses : (n : ℕ) (s : State) → Uses ops s (rounds n ops s)
   unfolding rounds round
   rounds-uses zero s = stop
   rounds-uses (suc n) s =
@@ -269,6 +269,7 @@ module _ (j : Job) (ok : FileOk (j .file)) (few : length (j .ops) ≤ maxOps) wh
         noWait = λ t l v. true≢false (sym (v .idles) ∙ moves t l);
         unfinished = λ t l. moves-unfinished _ _ (moves t l);
         fits = dealt-fits;
+        done = λ i l. dealt-done i;
         whole = dealt-whole;
         empty = dealt-empty;
       }

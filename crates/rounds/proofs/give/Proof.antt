@@ -57,7 +57,7 @@ use Rattle.table.proofs.Lent.{word, s, at, vs}
 use Rattle.table.proofs.Rows.{val, rowSize, times-fits, typed, row-out, own-row}
 use Rattle.run.specs.Table.{shapeFor}
 use Rattle.run.proofs.Headers.{headerVal, IsHeader, header-typed, own-header}
-use Rattle.rounds.specs.Dealing.{Dealing, dealing, rowFor, isPassed, nextPlace, Gives}
+use Rattle.rounds.specs.OnTable.{Dealing, dealing, rowFor, isPassed, nextPlace, Gives}
 use Rattle.rounds.proofs.Giving.{next-asks, moves-asks, given}
 use Rattle.rounds.proofs.next_turn as next
 use Rattle.rounds.proofs.moved_on as moved

@@ -51,7 +51,7 @@ use Rattle.table.proofs.Lent.{word, bytes-shr, bytes-mut, rows-mut, byte-ref, r
 use Rattle.table.proofs.Passes.{word-fits, next-fits}
 use Rattle.table.proofs.Rows.{tests}
 use Rattle.run.proofs.Headers.{headerVal, IsHeader, header-typed, own-header}
-use Rattle.rounds.specs.Dealing.{Dealing, dealing, giveTo, giveUpTo, GivesAll}
+use Rattle.rounds.specs.OnTable.{Dealing, dealing, giveTo, giveUpTo, GivesAll}
 use Rattle.rounds.proofs.Passing.{Same, none-given, one-more}
 use Rattle.rounds.proofs.give as give
 use Rattle.rounds.proofs.round.Key.{name as #rounds·round}

@@ -51,8 +51,9 @@ use Rattle.table.proofs.Calls.{sure, calls, passes-on}
 use Rattle.table.proofs.Lent.{word, bytes-shr, bytes-mut, rows-mut, byte-ref, row-ref, s, at, vs}
 use Rattle.table.proofs.Rows.{tests}
 use Rattle.run.proofs.Headers.{headerVal, IsHeader, header-typed, own-header}
-use Rattle.rounds.specs.Dealing.{Dealing, dealing, roundOn, roundsOn, GivesAll}
-use Rattle.rounds.proofs.Rounding.{Same, none-dealt, one-more, Goes, goes-on, left, fewer, turns-fit}
+use Rattle.rounds.specs.OnTable.{Dealing, dealing, roundOn, roundsOn, GivesAll}
+use Rattle.rounds.proofs.Passing.{Same}
+use Rattle.rounds.proofs.Rounding.{none-dealt, one-more, Goes, goes-on, left, fewer, turns-fit}
 use Rattle.rounds.proofs.round as round
 use Rattle.rounds.proofs.rounds.Key.{name as #rounds·rounds}
 use Rattle.rounds.proofs.rounds as fn′

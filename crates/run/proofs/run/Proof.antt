@@ -3,7 +3,7 @@
 -- All that the proof knows of the functions that are called is that they meet their contracts.
 -- Assumes nothing.
 use mathlib.Core.Path.{_≡_, refl, sym, _∙_, ap, subst}
-use mathlib.Core.Bool.{Bool, true, false, not}
+use mathlib.Core.Bool.{Bool, not}
 use Prim.Native.Nat.{ℕ}
 use mathlib.Core.List.{[], _∷_, List}
 use lib.Dec as dec
@@ -70,27 +70,19 @@ abbrev stayed : Stays (fn′.ended .signature .params) (fn′.ended .kept)
 stayed = (stay-dropped (shrSliceOf (0 ∷ []) tt (plain (λ _. u8))) yes, (gave-slice (1 ∷ []) tt (plain (λ _. u8)), (gave-slice (2 ∷ []) tt (plain (λ _. T.the-row)), (gave-slice (3 ∷ []) tt (plain (λ _. u8)), tt))))
 
 -- ---- what the answers come to
-is-true : (y : Bool) → dec.T y → y ≡ true
-is-true true h = refl
-is-true false h = absurd h
-
-is-false : (y : Bool) → dec.T (not y) → y ≡ false
-is-false true h = absurd h
-is-false false h = refl
-
 module _ (b s : List ℕ) (x : List Row) (w : List ℕ) where
   -- what `check_all` says of its answer
   abbrev Says : Checked → Type 0
   Says c = (c ≡ checkedOf (firstFault (lent s x w) b)) × AreBytes b
 
   accepts : (c : Checked) (y : Bool) → Says c → y ≡ isAccepted c → dec.T y → Accepted b s x w
-  accepts c y e a h = record { bytes = e .1; faultless = ends.accepted-none _ (sym (ap isAccepted (e .0)) ∙ (sym a ∙ is-true y h)) }
+  accepts c y e a h = record { bytes = e .1; faultless = ends.accepted-none _ (sym (ap isAccepted (e .0)) ∙ (sym a ∙ ends.is-true y h)) }
 
   settled-ran : (t : List ℕ) (z : List Row) (u : List ℕ) (n : ℕ) (r : Outcome) → Accepted b s x w → Ran b s t x z w u n → r ≡ doneFor n → Settled b s t x z w u r
   settled-ran t z u n r a e f = subst (λ (o : Outcome). Settled b s t x z w u o) (sym f) (ends.ran a e)
 
   settled-refused : (c : Checked) (y : Bool) (r : Outcome) → Says c → y ≡ isAccepted c → dec.T (not y) → r ≡ refusedBy c → Settled b s s x x w w r
-  settled-refused c y r e a h f = subst (λ (o : Outcome). Settled b s s x x w w o) (sym (f ∙ ap refusedBy (e .0))) (ends.refused b s x w (sym (ap isAccepted (e .0)) ∙ (sym a ∙ is-false y h)))
+  settled-refused c y r e a h f = subst (λ (o : Outcome). Settled b s s x x w w o) (sym (f ∙ ap refusedBy (e .0))) (ends.refused b s x w (sym (ap isAccepted (e .0)) ∙ (sym a ∙ ends.is-false y h)))
 
 -- what the proof knows of the functions that are called
 record Known {M : Type 1} (𝓤 : URA M) (H : Heap 𝓤) (A : Atoms 𝓤) (mem : Memory → SProp 𝓤) (run : Routine → Fun 𝓤) (C : Calls 𝓤 H) : Type 1 where

@@ -2,7 +2,6 @@ use borrow.Author.Tests.{lt-ltb, le-ltb}
 use Rattle.spec.specs.Basics.{when, orElse, among}
 use Rattle.spec.specs.Check.{smallFor}
 use Rattle.spec.specs.Cases.{spotOf}
-use borrow.Author.Needs.{needs}
 use Rattle.run.proofs.small_for.Statement.{statement}
 use Rattle.run.proofs.small_for.Tie as tie
 
