@@ -4,8 +4,8 @@
  *     pages < march.job
  *
  * A line for each operation: its number, kind and call, the answer in words, the charge, and the
- * page. chargefile.h says which page that is for each answer (chargefile_answer_page). Page 0 is no
- * page: the operation has no answer yet.
+ * page. chargefile_format.h says which page that is for each answer (chargefile_answer_page). Page 0
+ * is no page: the operation has no answer yet.
  *
  * Exit status 0, and the lines on standard output. Exit status 1, the reason on standard error and
  * nothing on standard output, where the job is refused.

@@ -2,7 +2,7 @@
 #ifndef GROUPS_H
 #define GROUPS_H
 
-void header_tests(void);     /* the numbers of chargefile.h are the document's */
+void header_tests(void);     /* the numbers of the header are the document's */
 void limit_tests(void);      /* a count at its limit, and one past it */
 void refusal_tests(void);    /* every row of the refusal table but 11 */
 void page_fault_tests(void); /* rows 12, 6 and 13: their bytes, and their order */

@@ -1,5 +1,5 @@
-/* The numbers of chargefile.h are the document's; a row and an outcome are laid out as the library
- * has them. */
+/* The numbers of the header are the document's; a row and an outcome are laid out as the library has
+ * them. */
 #include <stdalign.h>
 #include <stddef.h>
 

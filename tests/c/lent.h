@@ -21,6 +21,7 @@ typedef struct lent {
 /* The one lent set: each lend fills it anew. */
 extern lent set;
 
+/* Lends so many bytes of output, rows and bytes of working memory. */
 void lend_so_much(size_t result, size_t rows, size_t memory);
 
 /* The least that this job's run may be lent. */

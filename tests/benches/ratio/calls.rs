@@ -9,7 +9,7 @@ use rival::Row;
 use crate::linked;
 
 /// The longest that an output must be lent: that of dealing, for the longest job without turns.
-const RESULT: usize = 40_988;
+const OUTPUT: usize = 40_988;
 const ROWS: usize = 256;
 
 #[derive(Clone, Copy)]
@@ -39,8 +39,8 @@ pub struct Lent {
 impl Lent {
     pub fn new() -> Lent {
         Lent {
-            library: linked::Lent::new(RESULT, ROWS, WORKING_MEMORY),
-            result: vec![0; RESULT],
+            library: linked::Lent::new(OUTPUT, ROWS, WORKING_MEMORY),
+            result: vec![0; OUTPUT],
             rows: vec![Row::default(); ROWS],
             memory: vec![0; WORKING_MEMORY],
         }
