@@ -58,6 +58,13 @@ pub fn examples() -> Vec<Example> {
     ]
 }
 
+/// The one of this name.
+pub fn example(name: &str) -> Example {
+    let named = |example: &Example| example.name == name;
+    let found = examples().into_iter().find(named);
+    found.expect("an example of this name")
+}
+
 /// The smallest job: one empty page, nothing to do.
 fn blank() -> Job {
     Job {
@@ -161,13 +168,11 @@ fn school() -> Job {
 
 /// The same before any turn, as it is handed in to be dealt a list; and with it.
 fn evening() -> Job {
-    let turns = vec![];
-    Job { turns, ..school() }
+    school().with_list(&[])
 }
 
 fn dealt() -> Job {
-    let turns = deal::list(&evening());
-    Job { turns, ..school() }
+    evening().with_list(&deal::list(&evening()))
 }
 
 /// Two searches read page 1 after their entries have left it.

@@ -137,6 +137,14 @@ pub struct Job {
 }
 
 impl Job {
+    /// The same file and operations with another list of turns.
+    pub fn with_list(&self, turns: &[usize]) -> Job {
+        Job {
+            turns: turns.to_vec(),
+            ..self.clone()
+        }
+    }
+
     /// The counts its header has.
     pub fn counts(&self) -> Counts {
         Counts {

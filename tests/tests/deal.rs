@@ -10,7 +10,7 @@ use chargefile_tests::answer::{Answer, Code, CODES};
 use chargefile_tests::bounds::{Held, DEPTHS};
 use chargefile_tests::damage::{fault, scribble, NUMBERS};
 use chargefile_tests::deal::{at_most, least_lent, list, Room, MOST_TURNS};
-use chargefile_tests::examples::examples;
+use chargefile_tests::examples::example;
 use chargefile_tests::explain::explain;
 use chargefile_tests::job::{Job, Kind, MAX_CAPACITY, MAX_OPERATIONS};
 use chargefile_tests::little_endian::{four_at, two_at};
@@ -27,7 +27,7 @@ use chargefile_tests::run::{result_bytes, Run};
 use chargefile_tests::seeds::{each_seed, few_seeds};
 use chargefile_tests::tally::{all_seen, Tally};
 use chargefile_tests::{check, deal, Outcome};
-use dealt::{judged, with_list};
+use dealt::judged;
 
 /// Random jobs, mostly small.
 const RANDOM: u64 = 6_000;
@@ -166,12 +166,12 @@ fn stored_jobs_and_those_of_the_most_turns() {
     let mut met = Met::default();
     for capacity in [1, 3, MAX_CAPACITY] {
         for job in of_the_most_turns(capacity) {
-            is_dealt(&with_list(&job, &[]), &mut met);
+            is_dealt(&job.with_list(&[]), &mut met);
         }
     }
     for (name, job) in stored() {
         println!("{name}");
-        is_dealt(&with_list(&job, &[]), &mut met);
+        is_dealt(&job.with_list(&[]), &mut met);
     }
     met.held.all_met(&DEPTHS, 6);
 }
@@ -185,10 +185,7 @@ fn the_largest_jobs() {
         let random = &mut Random::new(capacity as u64, "largest");
         is_dealt(&contended_by(random, 8, capacity, MAX_OPERATIONS), &mut met);
     }
-    let month = examples()
-        .into_iter()
-        .find(|example| example.name == "month");
-    is_dealt(&with_list(&month.unwrap().job, &[]), &mut met);
+    is_dealt(&example("month").job.with_list(&[]), &mut met);
     println!("longest {}, {} retries", met.longest, met.retries);
     all_seen([
         ("splits", met.splits, 500),
@@ -203,7 +200,7 @@ fn rounds_of_all_without_the_turns_that_wait() {
     let (mut waits, mut lists) = (0, 0);
     let mut same = |job: &Job| {
         let all = deal_rounds(job, Dealer::Rising, Run::deal).unwrap();
-        let used = counted_only(&with_list(job, &all.turns));
+        let used = counted_only(&job.with_list(&all.turns));
         assert_eq!(used.turns, list(job));
         waits += all.run.waits;
         lists += usize::from(all.run.waits > 0);

@@ -8,12 +8,12 @@ use chargefile_tests::by_hand::{
     self, insert, search, ABSENT, ALREADY_THERE, DELETED, DIFFERS, FOUND, NONE, NO_DEPTH, STORED,
 };
 use chargefile_tests::deal::{at_most, least_lent, list, MORE, MOST_TURNS};
-use chargefile_tests::examples::examples;
+use chargefile_tests::examples::example;
 use chargefile_tests::job::{Job, MAX_OPERATIONS, MAX_TURNS};
 use chargefile_tests::make_rounds::hotel_of_forty;
 use chargefile_tests::{check, deal, report, Outcome};
 use dealt::scenes::{scene_of, scenes};
-use dealt::{judged, rounds, with_list};
+use dealt::{judged, rounds};
 
 #[test]
 fn every_list_by_hand() {
@@ -110,7 +110,7 @@ fn job_e_printed() {
                 page 1 depth 1 pattern 0 : 4=90\n\
                 page 2 depth 1 pattern 1 : 2=50\n";
     let scene = scene_of("job E");
-    let printed = report(&with_list(&scene.job, &scene.list).to_bytes());
+    let printed = report(&scene.job.with_list(&scene.list).to_bytes());
     assert_eq!(String::from_utf8(printed).unwrap(), text);
 }
 
@@ -168,8 +168,7 @@ fn the_numbers() {
 #[test]
 fn the_examples() {
     let dealt = |name: &str| {
-        let example = examples().into_iter().find(|example| example.name == name);
-        let job = with_list(&example.expect("an example").job, &[]);
+        let job = example(name).job.with_list(&[]);
         let list = list(&job);
         assert!(judged(&job, &list).is_ok(), "{name}");
         (list.len(), rounds(&list).len())
@@ -240,13 +239,9 @@ fn a_search_does_not_see_what_the_job_stores() {
 /// The boarding school's job: at lights out two operations were under way, and one was not begun.
 #[test]
 fn the_school_misses_nothing() {
-    let named = |name| {
-        let found = examples().into_iter().find(|example| example.name == name);
-        found.expect("an example of this name").job
-    };
-    let (school, evening, dealt) = (named("school"), named("evening"), named("dealt"));
-    assert_eq!(with_list(&evening, &school.turns), school);
-    assert_eq!(with_list(&evening, &dealt.turns), dealt);
+    let [school, evening, dealt] = ["school", "evening", "dealt"].map(|name| example(name).job);
+    assert_eq!(evening.with_list(&school.turns), school);
+    assert_eq!(evening.with_list(&dealt.turns), dealt);
     assert_eq!((evening.turns.len(), dealt.turns.len()), (0, 24));
     let run = judged(&evening, &dealt.turns).expect("the list as it is said");
     let answers = run.answers();

@@ -5,7 +5,7 @@ use std::fs;
 use std::path::{Path, PathBuf};
 
 use chargefile_tests::answer::{Code, Line};
-use chargefile_tests::examples::{examples, Example};
+use chargefile_tests::examples::{self, examples, Example};
 use chargefile_tests::job::{Counts, Job, Kind, Operation};
 use chargefile_tests::key::{index, pseudo_key};
 use chargefile_tests::page::Record;
@@ -35,14 +35,8 @@ fn read(name: &str) -> Vec<u8> {
     fs::read(folder().join(name)).unwrap_or_else(|why| panic!("{name}: {why}"))
 }
 
-fn named(name: &str) -> Example {
-    let named = |example: &Example| example.name == name;
-    let found = examples().into_iter().find(named);
-    found.expect("an example of this name")
-}
-
 fn example(name: &str) -> Job {
-    named(name).job
+    examples::example(name).job
 }
 
 /// The job dealt its whole turn list.
@@ -321,7 +315,7 @@ fn uncharged(operation: &Operation) -> Operation {
 
 #[test]
 fn exchanged_names_the_second() {
-    let example = named("exchanged");
+    let example = examples::example("exchanged");
     let job = example.bytes();
     assert_eq!(check(&job), Some((8, 48)));
     assert_eq!(job[40..44], [0, 1, 0, 0], "call 256");
@@ -333,7 +327,7 @@ fn exchanged_names_the_second() {
 
 #[test]
 fn wide_names_the_pattern() {
-    let example = named("wide");
+    let example = examples::example("wide");
     let job = example.bytes();
     assert_eq!(check(&job), Some((12, 62)));
     assert_eq!(job[60..64], [1, 2, 2, 0], "depth 1, pattern 2");
@@ -344,7 +338,7 @@ fn wide_names_the_pattern() {
 
 #[test]
 fn leftover_names_the_first_byte_that_is_left() {
-    let mut job = named("leftover").bytes();
+    let mut job = examples::example("leftover").bytes();
     assert_eq!(check(&job), Some((13, 57)));
     assert_eq!(job[36..40], [1, 2, 0, 0], "two records");
     assert_eq!(job[48..56], job[56..64], "the second record and a third");

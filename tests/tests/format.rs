@@ -6,8 +6,7 @@ use std::path::Path;
 use std::str::Chars;
 
 use chargefile_tests::damage::NUMBERS;
-use chargefile_tests::examples::{examples, Example};
-use chargefile_tests::job::Job;
+use chargefile_tests::examples::example;
 use chargefile_tests::key::pseudo_key;
 use chargefile_tests::run::result_bytes;
 use chargefile_tests::{check, deal, report, tidy, Outcome};
@@ -46,9 +45,7 @@ fn dump(text: &str, heading: &str) -> Vec<u8> {
 }
 
 fn job_e() -> Vec<u8> {
-    let named = |example: &Example| example.name == "job-e";
-    let found = examples().into_iter().find(named);
-    found.expect("job E").job.to_bytes()
+    example("job-e").bytes()
 }
 
 #[test]
@@ -133,12 +130,7 @@ fn the_worked_refusals_of_tidying() {
 
 /// Job E without its turns.
 fn unturned() -> Vec<u8> {
-    let job = Job::from_bytes(&job_e());
-    Job {
-        turns: vec![],
-        ..job
-    }
-    .to_bytes()
+    example("job-e").job.with_list(&[]).to_bytes()
 }
 
 #[test]

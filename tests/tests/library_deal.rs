@@ -6,8 +6,8 @@ use chargefile_tests::answer::{Answer, Code};
 use chargefile_tests::check;
 use chargefile_tests::check::{least_lent as least_lent_run, WORKING_MEMORY};
 use chargefile_tests::damage::{fault, scribble, NUMBERS};
-use chargefile_tests::deal::{least_lent, MORE, MOST_TURNS};
-use chargefile_tests::examples::examples;
+use chargefile_tests::deal::{least_lent, Room, MORE, MOST_TURNS};
+use chargefile_tests::examples::example;
 use chargefile_tests::explain::explain_from;
 use chargefile_tests::job::{Counts, Job, MAX_CAPACITY, MAX_OPERATIONS};
 use chargefile_tests::make;
@@ -22,7 +22,7 @@ use chargefile_tests::seeds::{each_seed, few_seeds};
 use chargefile_tests::tally::{all_seen, Tally};
 use chargefile_tests::vectors;
 use chargefile_tests::{deal, Outcome};
-use linked::{Lent, Room};
+use linked::Lent;
 
 const JOBS: u64 = 12_000;
 const DAMAGED: u64 = 1_500;
@@ -69,11 +69,6 @@ fn dealt_and_run(job: &Job) -> usize {
     dealt.turns.len()
 }
 
-fn without_turns(job: Job) -> Job {
-    let turns = Vec::new();
-    Job { turns, ..job }
-}
-
 /// It comes to what is stored; more lent than stored changes nothing but a refusal for too little. The last name printed is that of a vector that
 /// fails.
 #[test]
@@ -118,11 +113,11 @@ fn contended_and_stored_jobs() {
         }
     });
     for job in of_the_most_turns(2) {
-        turns += dealt_and_run(&without_turns(job));
+        turns += dealt_and_run(&job.with_list(&[]));
     }
     for (name, job) in stored() {
         println!("{name}");
-        turns += dealt_and_run(&without_turns(job));
+        turns += dealt_and_run(&job.with_list(&[]));
     }
     assert!(turns > 20_000, "{turns} turns");
 }
@@ -137,9 +132,7 @@ fn the_largest_jobs() {
         let job = contended_by(random, 8, capacity, MAX_OPERATIONS);
         dealt_and_run(&job);
     }
-    let mut all = examples().into_iter();
-    let month = all.find(|example| example.name == "month");
-    dealt_and_run(&without_turns(month.expect("an example").job));
+    dealt_and_run(&example("month").job.with_list(&[]));
     assert_eq!(longest, 4_817);
 }
 
@@ -154,7 +147,7 @@ fn months_dealt_by_the_library() {
         let calls = make::pool(random, file.depth);
         let mut list = PlainList::of(&file.holds()).unwrap();
         for _ in 0..3 {
-            let job = dealt(&without_turns(month(random, file, &calls)));
+            let job = dealt(&month(random, file, &calls).with_list(&[]));
             let contents = its_run(&job);
             list = explain_from(list, &job, &contents).unwrap();
             let left = contents.charge_file.expect("a charge file");
@@ -227,10 +220,7 @@ fn too_little_lent() {
 /// Every length of the output for a small job, up to some past the least; the list itself is far shorter.
 #[test]
 fn every_room() {
-    let example = examples()
-        .into_iter()
-        .find(|example| example.name == "job-e");
-    let bytes = without_turns(example.expect("an example").job).to_bytes();
+    let bytes = example("job-e").job.with_list(&[]).to_bytes();
     let mut taken = 0;
     for room in 0..bytes.len() + MORE + 20 {
         let outcome = agree(&bytes, (room, 4, WORKING_MEMORY));
@@ -256,7 +246,7 @@ fn a_job_with_turns_is_refused() {
             assert_eq!(agree(&job.to_bytes(), (0, 0, 0)), refused);
             with_turns += 1;
         }
-        let dealt = dealt(&without_turns(job));
+        let dealt = dealt(&job.with_list(&[]));
         if !dealt.turns.is_empty() {
             assert_eq!(agree(&dealt.to_bytes(), enough), refused);
             again += 1;
@@ -348,10 +338,7 @@ fn whatever_was_there_before() {
 /// Number and place are whole numbers of 64 bits, the length too: no part of them is left as it was.
 #[test]
 fn the_whole_outcome() {
-    let example = examples()
-        .into_iter()
-        .find(|example| example.name == "school");
-    let job = without_turns(example.expect("an example").job);
+    let job = example("evening").job;
     let bytes = job.to_bytes();
     assert_eq!((check(&bytes), Counts::read(&bytes).turns), (None, 0));
     let (out, rows, memory) = least_lent(&bytes, job.operations.len());

@@ -5,7 +5,7 @@ mod dealt;
 
 use chargefile_tests::damage::{fault, scribble, NUMBERS};
 use chargefile_tests::deal::{least_lent, Room};
-use chargefile_tests::examples::examples;
+use chargefile_tests::examples::example;
 use chargefile_tests::job::{Job, MAX_CAPACITY, MAX_OPERATIONS};
 use chargefile_tests::make;
 use chargefile_tests::make_rounds::{
@@ -17,7 +17,6 @@ use chargefile_tests::tally::Tally;
 use chargefile_tests::vectors;
 use chargefile_tests::{deal, Outcome};
 use dealt::scenes::scenes;
-use dealt::with_list;
 use rival::Row;
 
 const JOBS: u64 = 6_000;
@@ -117,10 +116,10 @@ fn contended_jobs() {
 fn stored_jobs_and_those_of_the_most_turns() {
     for (name, job) in stored() {
         println!("{name}");
-        dealt(&with_list(&job, &[]));
+        dealt(&job.with_list(&[]));
     }
     for job in of_the_most_turns(1) {
-        assert!(!dealt(&with_list(&job, &[])).is_empty());
+        assert!(!dealt(&job.with_list(&[])).is_empty());
     }
 }
 
@@ -128,9 +127,7 @@ fn stored_jobs_and_those_of_the_most_turns() {
 fn the_largest_jobs() {
     let lists = (1..=MAX_CAPACITY).map(|capacity| dealt(&one_for_each_entry(capacity)).len());
     assert_eq!(lists.max(), Some(4_817));
-    let mut all = examples().into_iter();
-    let month = all.find(|example| example.name == "month");
-    let month = with_list(&month.expect("an example").job, &[]);
+    let month = example("month").job.with_list(&[]);
     assert_eq!(dealt(&month).len(), 1_795);
 }
 

@@ -8,7 +8,7 @@ use chargefile_tests::answer::{Code, CODES};
 use chargefile_tests::bounds::{Held, DEPTHS, KINDS};
 use chargefile_tests::by_hand::{self, delete, insert, search};
 use chargefile_tests::check;
-use chargefile_tests::examples::examples;
+use chargefile_tests::examples::example;
 use chargefile_tests::job::{Job, Kind, MAX_OPERATIONS, MAX_TURNS};
 use chargefile_tests::make_most_turns::misled;
 use chargefile_tests::make_rounds::{contended, hotel_of_forty};
@@ -169,10 +169,7 @@ fn a_hotel_with_forty_operations() {
 /// What examples/README.md says of the same forty, every one of them in turn: in the third round the last search is finished, and in the last, two deletes.
 #[test]
 fn the_example_needs_each_of_its_rounds() {
-    let example = examples()
-        .into_iter()
-        .find(|example| example.name == "forty");
-    let job = example.expect("examples/forty.job").job;
+    let job = example("forty").job;
     let mut run = Run::new(&job);
     run.deal_all(&job.turns);
     assert_eq!(job.turns.len(), 58 * 40);

@@ -41,14 +41,6 @@ struct Met {
     answered: usize,
 }
 
-/// The job with another list.
-fn with_list(job: &Job, turns: &[usize]) -> Job {
-    Job {
-        turns: turns.to_vec(),
-        ..job.clone()
-    }
-}
-
 /// A result in which all is done, by its bytes: no code is 0, so that the log has a line for each operation; none is begun but unfinished; and there is
 /// a charge file behind the log, with the file as this run has left it.
 fn all_done(job: &Job, result: &[u8], run: &Run) {
@@ -87,13 +79,13 @@ fn the_library_finishes(job: &Job, dealt: &Dealt, met: &mut Met) {
         return;
     };
     for turns in [&dealt.turns[..], &dealt.turns[..=last]] {
-        let whole = with_list(job, turns);
+        let whole = job.with_list(turns);
         let result = by_both(&whole);
         all_done(&whole, &result, &dealt.run);
         assert_eq!(counts(&result, &whole), used);
         met.held.hold_all(&whole, &used);
     }
-    let cut = with_list(job, &dealt.turns[..last]);
+    let cut = job.with_list(&dealt.turns[..last]);
     let result = by_both(&cut);
     let operation = dealt.turns[last];
     match one_unfinished(&cut, &result, operation) {
@@ -185,7 +177,7 @@ fn surely(job: &Job) -> Option<()> {
         assert!(is_round(&run, &round), "{round:?}");
         run.deal_all(&round);
     }
-    let job = with_list(job, &list);
+    let job = job.with_list(&list);
     all_done(&job, &by_both(&job), &run);
     Some(())
 }
@@ -213,7 +205,7 @@ fn every_operation_in_turn(job: &Job) -> Option<()> {
         return None;
     }
     let list: Vec<usize> = (0..turns).map(|turn| turn % m).collect();
-    let job = with_list(job, &list);
+    let job = job.with_list(&list);
     let mut run = Run::new(&job);
     run.deal_all(&list);
     let result = by_both(&job);

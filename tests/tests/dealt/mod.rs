@@ -55,11 +55,3 @@ pub fn judged(job: &Job, list: &[usize]) -> Result<Run, Wrong> {
     }
     Ok(run)
 }
-
-/// The job with another list.
-pub fn with_list(job: &Job, list: &[usize]) -> Job {
-    Job {
-        turns: list.to_vec(),
-        ..job.clone()
-    }
-}

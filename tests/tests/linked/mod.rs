@@ -4,6 +4,7 @@
 
 use std::hint::black_box;
 
+use chargefile_tests::deal::Room;
 use chargefile_tests::Outcome;
 
 /// A row of the lent table, as include/chargefile.h declares it; all 0 for an operation not begun.
@@ -211,9 +212,6 @@ pub fn wanted(outcome: &Outcome) -> Told {
         Outcome::Refused { number, place } => Err((u64::from(*number), u64::from(*place))),
     }
 }
-
-/// What is lent: bytes of the output, rows, bytes of working memory.
-pub type Room = (usize, usize, usize);
 
 /// Runs a job with so much lent. It comes to this, and what is lent is left as the document says; a refusal has written nothing.
 pub fn comes_to(job: &[u8], room: Room, wanted: &Outcome) {
