@@ -27,11 +27,15 @@ pub fn fill(rows: &mut [Row], row: Row)
 
 // ---- turns
 
-// Turn t of operation i, whose row is handed in and comes back moved on. Covered.
+// Turn t of operation i, whose row is handed in and comes back moved on. Most turns of a contended job find their operation waiting, or finished:
+// they are told by a look at the row and at one lock. Covered.
 fn moved_on(row: Row, ops: &[u8], i: usize, shape: Shape, t: usize, work: &mut [u8]) -> Row
     requires { ⌜ Moves shape (now ops) t i row (now work) ⌝ }
     ensures { λ r. ⌜ out r (now (work .exit)) ≡ movedOn shape (now (ops .entry)) t i row (now (work .entry)) ⌝ }
 {
+    if row.idles(work) {
+        return row;
+    }
     let op = reader::op_at(ops, i);
     row.step(shape, op, t as u16, work)
 }
