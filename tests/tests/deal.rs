@@ -8,7 +8,6 @@ mod dealt;
 
 use chargefile_tests::answer::{Answer, Code, CODES};
 use chargefile_tests::bounds::{Held, DEPTHS};
-use chargefile_tests::damage::{fault, scribble, NUMBERS};
 use chargefile_tests::deal::{at_most, least_lent, list, Room, MOST_TURNS};
 use chargefile_tests::examples::example;
 use chargefile_tests::explain::explain;
@@ -25,9 +24,9 @@ use chargefile_tests::result::{self, Contents};
 use chargefile_tests::rounds::{deal_rounds, Dealer};
 use chargefile_tests::run::{result_bytes, Run};
 use chargefile_tests::seeds::{each_seed, few_seeds};
-use chargefile_tests::tally::{all_seen, Tally};
+use chargefile_tests::tally::all_seen;
 use chargefile_tests::{check, deal, Outcome};
-use dealt::judged;
+use dealt::{judged, refused};
 
 /// Random jobs, mostly small.
 const RANDOM: u64 = 6_000;
@@ -247,35 +246,16 @@ fn refusal(bytes: &[u8], room: Room) -> Option<(u32, u32)> {
     places.iter().find(|(met, _)| *met).map(|(_, told)| *told)
 }
 
-/// Jobs with a fault and without, with turns and without, with any of the three lent too short.
+/// The job's own refusal, then 21, then 11 with its places in their order.
 #[test]
 fn what_is_refused() {
-    let mut tally = Tally::default();
-    let whole = each_seed(1_500, |seed| {
-        let random = &mut Random::new(seed, "deal refused");
-        let mut job = make::small_job(random);
-        if random.percent(50) {
-            job.turns.clear();
-        }
-        let bytes = job.to_bytes();
-        for number in NUMBERS {
-            let given = match fault(random, &job, number) {
-                Some(fault) if random.percent(50) => fault.apply(&bytes),
-                _ if random.percent(30) => scribble(random, &bytes),
-                _ => bytes.clone(),
-            };
-            let mut less = |length: usize| length.saturating_sub(random.one_of(&[0, 0, 0, 1, 99]));
-            let (out, rows, memory) = least_lent(&given, job.operations.len());
-            let room = (less(out), less(rows), less(memory));
-            let told = match deal(&given, room) {
-                Outcome::Done { .. } => None,
-                Outcome::Refused { number, place } => Some((number, place)),
-            };
-            assert_eq!(told, refusal(&given, room));
-            tally.count(told.map_or(0, |(number, _)| number));
-        }
+    refused::each_is_told("deal refused", |job, room| {
+        let outcome = deal(job, room);
+        let told = match outcome {
+            Outcome::Done { .. } => None,
+            Outcome::Refused { number, place } => Some((number, place)),
+        };
+        assert_eq!(told, refusal(job, room));
+        outcome
     });
-    if whole {
-        tally.all_met(NUMBERS.into_iter().chain([21, 11, 0]), 50);
-    }
 }

@@ -1,11 +1,11 @@
 //! The library's dealing of turns against the tests' own implementation: output for output, and every lent buffer afterwards.
 
+mod dealt;
 mod linked;
 
 use chargefile_tests::answer::{Answer, Code};
 use chargefile_tests::check;
 use chargefile_tests::check::{least_lent as least_lent_run, WORKING_MEMORY};
-use chargefile_tests::damage::{fault, scribble, NUMBERS};
 use chargefile_tests::deal::{least_lent, Room, MORE, MOST_TURNS};
 use chargefile_tests::examples::example;
 use chargefile_tests::explain::explain_from;
@@ -19,13 +19,13 @@ use chargefile_tests::plain_list::PlainList;
 use chargefile_tests::random::Random;
 use chargefile_tests::result::{self, Contents};
 use chargefile_tests::seeds::{each_seed, few_seeds};
-use chargefile_tests::tally::{all_seen, Tally};
+use chargefile_tests::tally::all_seen;
 use chargefile_tests::vectors;
 use chargefile_tests::{deal, Outcome};
+use dealt::refused;
 use linked::Lent;
 
 const JOBS: u64 = 12_000;
-const DAMAGED: u64 = 1_500;
 const CONTENDED: u64 = 10;
 
 /// Both come to the same, and what is lent is left as the document says.
@@ -159,37 +159,10 @@ fn months_dealt_by_the_library() {
     assert!(months == 360 || !whole, "{months} months");
 }
 
-/// The job's own refusals come before all others, then 21, then 11: jobs with a fault and without one, with turns and without, and any of the three lent
-/// short, or all, or none.
+/// The job's own refusals come before all others, then 21, then 11.
 #[test]
 fn damaged_jobs() {
-    let mut tally = Tally::default();
-    let whole = each_seed(DAMAGED, |seed| {
-        let random = &mut Random::new(seed, "library deal damage");
-        let mut job = make::small_job(random);
-        if random.percent(60) {
-            job.turns.clear();
-        }
-        let bytes = job.to_bytes();
-        for number in NUMBERS {
-            let given = match fault(random, &job, number) {
-                Some(fault) if random.percent(50) => fault.apply(&bytes),
-                _ if random.percent(40) => scribble(random, &bytes),
-                _ => bytes.clone(),
-            };
-            let (out, rows, memory) = least_lent(&given, job.operations.len());
-            let mut less = |length: usize| length.saturating_sub(random.one_of(&[0, 0, 0, 0, 1]));
-            let least = (less(out), less(rows), less(memory));
-            let room = random.one_of(&[least, least, (0, 0, 0)]);
-            match agree(&given, room) {
-                Outcome::Refused { number, .. } => tally.count(number),
-                Outcome::Done { .. } => tally.count(0),
-            }
-        }
-    });
-    if whole {
-        tally.all_met(NUMBERS.into_iter().chain([21, 11, 0]), 100);
-    }
+    refused::each_is_told("library deal damage", agree);
 }
 
 /// Each of the three just enough, and one less; where two are short, the lower place is told.

@@ -3,7 +3,6 @@
 
 mod dealt;
 
-use chargefile_tests::damage::{fault, scribble, NUMBERS};
 use chargefile_tests::deal::{least_lent, Room};
 use chargefile_tests::examples::example;
 use chargefile_tests::job::{Job, MAX_CAPACITY, MAX_OPERATIONS};
@@ -13,9 +12,9 @@ use chargefile_tests::make_rounds::{
 };
 use chargefile_tests::random::Random;
 use chargefile_tests::seeds::{each_seed, few_seeds};
-use chargefile_tests::tally::Tally;
 use chargefile_tests::vectors;
 use chargefile_tests::{deal, Outcome};
+use dealt::refused;
 use dealt::scenes::scenes;
 use rival::Row;
 
@@ -144,29 +143,5 @@ fn every_number_of_operations() {
 /// The job's own refusal, then 21, then 11 with its places in their order.
 #[test]
 fn damaged_jobs() {
-    let mut tally = Tally::default();
-    let whole = each_seed(1_500, |seed| {
-        let random = &mut Random::new(seed, "rival deal damage");
-        let mut job = make::small_job(random);
-        if random.percent(60) {
-            job.turns.clear();
-        }
-        let bytes = job.to_bytes();
-        for number in NUMBERS {
-            let given = match fault(random, &job, number) {
-                Some(fault) if random.percent(50) => fault.apply(&bytes),
-                _ if random.percent(40) => scribble(random, &bytes),
-                _ => bytes.clone(),
-            };
-            let mut less = |length: usize| length.saturating_sub(random.one_of(&[0, 0, 0, 0, 1]));
-            let (out, rows, memory) = least_lent(&given, job.operations.len());
-            match agree(&given, (less(out), less(rows), less(memory))) {
-                Outcome::Refused { number, .. } => tally.count(number),
-                Outcome::Done { .. } => tally.count(0),
-            }
-        }
-    });
-    if whole {
-        tally.all_met(NUMBERS.into_iter().chain([21, 11, 0]), 50);
-    }
+    refused::each_is_told("rival deal damage", agree);
 }

@@ -1,7 +1,8 @@
-//! What is said of a dealt list, asked of any list, and small jobs with the lists that are dealt for them, worked out by hand.
+//! What is said of a dealt list, asked of any list; small jobs with the lists that are dealt for them, worked out by hand; and jobs to be refused.
 // each test program uses its own part of these
 #![allow(dead_code)]
 
+pub mod refused;
 pub mod scenes;
 
 use chargefile_tests::job::Job;
