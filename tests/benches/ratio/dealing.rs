@@ -9,7 +9,7 @@ use chargefile_tests::make_rounds::{hotel_of_forty, one_for_each_entry};
 use chargefile_tests::vectors;
 
 use crate::calls::Call;
-use crate::jobs::{self, held, missing, operation, without_turns, Even};
+use crate::jobs::{self, held, operation, without_turns, Even};
 use crate::measure::{best, rotation};
 use crate::table;
 
@@ -18,15 +18,9 @@ const ROTATION: u64 = 64;
 pub fn print() {
     table::heading("Turns dealt for a job");
     line("256 searches", searches());
-    line("256 inserts, each with a page of its own", inserts());
     line("256 deletes at one page", one_page());
     line("256 inserts that split all pages", one_for_each_entry(1));
     line("full", Job::from_bytes(&full()));
-    let contended = jobs::contended();
-    line(
-        "a contended job",
-        without_turns(contended.file, contended.operations),
-    );
     line("a hotel's forty operations", hotel_of_forty());
     line("the school", school());
     let all: Vec<Vec<u8>> = (0..ROTATION).map(full_without_turns).collect();
@@ -45,12 +39,6 @@ fn line(name: &str, job: Job) {
 fn searches() -> Job {
     let search = |i: u32| operation(Kind::Search, held(i % 32, 5, i / 32));
     without_turns(Even::large(5, 8).file(), (0..256).map(search).collect())
-}
-
-/// Nobody waits.
-fn inserts() -> Job {
-    let insert = |p| operation(Kind::Insert, missing(p, 8, p / 7 % 5));
-    without_turns(Even::large(8, 4).file(), (0..256).map(insert).collect())
 }
 
 /// All but one wait at any time: deletes of calls that are not there, for which there is nothing to write.
