@@ -81,14 +81,22 @@ static inline bool was_accepted(const char *program, chargefile_outcome told)
     return false;
 }
 
+/* Reads a job or a charge file from standard input, into JOB_ROOM bytes, and how long it is. False
+ * where that fails, which is said on standard error. */
+static inline bool job_was_read(const char *program, uint8_t *job, size_t *length)
+{
+    *length = fread(job, 1, JOB_ROOM, stdin);
+    return was_read(program, stdin, "standard input");
+}
+
 /* Reads a job from standard input, into JOB_ROOM bytes, and runs it: its result, in
  * CHARGEFILE_RESULT_MAX bytes. False where that fails, which is said on standard error. */
 static inline bool was_run(const char *program, uint8_t *job, uint8_t *result)
 {
     static chargefile_row rows[CHARGEFILE_ROWS_MAX];
     static uint8_t memory[CHARGEFILE_MEMORY_SIZE];
-    size_t length = fread(job, 1, JOB_ROOM, stdin);
-    if (!was_read(program, stdin, "standard input")) {
+    size_t length;
+    if (!job_was_read(program, job, &length)) {
         return false;
     }
     return was_accepted(program, chargefile_run(job, length, result, CHARGEFILE_RESULT_MAX, rows,

@@ -42,8 +42,8 @@ int main(int count, char **words)
         fprintf(stderr, "usage: %s < JOB > JOB\n", NAME);
         return 1;
     }
-    size_t length = fread(job, 1, sizeof job, stdin);
-    if (!was_read(NAME, stdin, "standard input")) {
+    size_t length;
+    if (!job_was_read(NAME, job, &length)) {
         return 1;
     }
     chargefile_outcome told = chargefile_check(job, length);

@@ -26,8 +26,8 @@ int main(int count, char **words)
         fprintf(stderr, "%s: the wanted depth is a number, 0 to %u\n", NAME, CHARGEFILE_DEPTH_MAX);
         return 1;
     }
-    size_t length = fread(file, 1, sizeof file, stdin);
-    if (!was_read(NAME, stdin, "standard input")) {
+    size_t length;
+    if (!job_was_read(NAME, file, &length)) {
         return 1;
     }
     chargefile_outcome told = chargefile_tidy(file, length, depth, tidied, sizeof tidied);

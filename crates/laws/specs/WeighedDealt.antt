@@ -1,6 +1,7 @@
 -- The claim on turns dealt weighed, as Weighed does for the others: each field of `DealtWell` and of `DealtWritten` as a test that computes, of the
 -- bytes of a job, and jobs on which every test passes. For each field there is a changed definition under which its test fails (tests/edits).
--- That a test that fails refutes the claim is proved in RefutesDealt.
+-- That a test that fails refutes the claim is proved in RefutesDealt. Who is finished is told by Weighed's own test and not by Deal's: what weighs
+-- the claims must not move with the definitions.
 use Prim.Native.Nat.{ℕ, _+_, _-_, _*_}
 use mathlib.Core.Path.{_≡_, refl}
 use mathlib.Core.List.{List, [], _∷_, _++_, map}
