@@ -29,6 +29,9 @@ pub mod Report
 pub mod Tidy
 -- "Turns dealt for the site"
 pub mod Deal
+-- "The tariff"
+pub mod SwitchLog
+pub mod Tariff
 -- what is claimed
 pub mod Proper
 pub mod Claims
@@ -37,7 +40,8 @@ pub mod Rounds
 pub mod Dealt
 pub mod Tidied
 pub mod Months
--- by computation: the marked items, the refusal table, files tidied, turns dealt
+pub mod Priced
+-- by computation: the marked items, the refusal table, files tidied, turns dealt, calls priced
 pub mod Opened
 pub mod Worked
 pub mod OneKey
@@ -46,3 +50,4 @@ pub mod Marked
 pub mod Refusals
 pub mod Tidying
 pub mod Dealing
+pub mod Pricing
