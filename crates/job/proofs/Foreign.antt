@@ -22,7 +22,7 @@ use Rattle.header.specs.declared.Header.{Header}
 use Rattle.header.specs.Sections.{entries-count}
 use Rattle.job.specs.Owner.{Paged, stray, other, foreign, Lowest}
 use Rattle.job.proofs.Sizes.{shifted}
-use Rattle.job.proofs.Walk.{clear-hit, clear-all}
+use Rattle.laws.specs.Codec.Passed.{clear-hit, clear-all}
 use Rattle.job.proofs.Pages.{PageIs, page-depth, in-use, in-use-at}
 use Rattle.job.proofs.Begun.{run, first, begun, below-begun, above-begun, begun-end}
 

@@ -1,6 +1,5 @@
 -- No contract cites these files.
--- loops that stop at the first fault, sizes within the limits, bytes that must be zero
-pub mod Walk
+-- sizes within the limits, bytes that must be zero
 pub mod Sizes
 pub mod Zeros
 -- rows 7 and 8

@@ -17,8 +17,7 @@ use Rattle.laws.specs.Codec.Tools.{when-none, ltb-no}
 use Rattle.laws.specs.Codec.Rows.{limits-said, header-said}
 use Rattle.header.specs.declared.Header.{Header}
 use Rattle.header.specs.Counts.{countsOf, Heads}
-use Rattle.job.specs.Answer.{refused}
-use Rattle.job.proofs.Walk.{spot-some, spot-none}
+use Rattle.laws.specs.Codec.Answer.{refused, spot-some, spot-none}
 
 -- a row that does not hold
 pub passed : (o : Option ℕ) (s : Spot) → s ≡ spotOf o → s ≡ Nowhere → o ≡ none

@@ -1,5 +1,3 @@
 -- what the contracts cite
 pub mod Owner
 pub mod Records
--- laws for callers' proofs
-pub mod Answer

@@ -1,9 +1,12 @@
 -- The laws of the bytes: a file for each theme, those that others rest on first.
--- tools: tests that do not hold, walks over a list, bytes that are zero, parts of a byte string and their places, numbers in bytes
+-- tools: tests that do not hold, walks over a list and loops that stop at the first fault, what an answer says, bytes that are zero, parts of a byte string and their places, bytes that are parts from beginning to end, numbers in bytes
 pub mod Tools
 pub mod Walk
+pub mod Passed
+pub mod Answer
 pub mod Zeros
 pub mod Parts
+pub mod Whole
 pub mod Numbers
 pub mod Pieces
 pub mod Places

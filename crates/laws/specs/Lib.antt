@@ -19,6 +19,9 @@ pub mod Room
 -- tidying: which pages are left, in whatever order they are joined; the tidied file; months one after another
 pub mod Tidy
 pub mod Months
+-- the tariff: bands and log records; the output
+pub mod Tariff
+pub mod Priced
 -- the claims weighed: each field as a test that computes, which some wrong machine fails; a failed test refutes the claim
 pub mod Weighed
 pub mod Refutes
@@ -35,3 +38,6 @@ pub mod RefutesRounds
 -- the same for turns dealt
 pub mod WeighedDealt
 pub mod RefutesDealt
+-- the same for the tariff
+pub mod WeighedPriced
+pub mod RefutesPriced

@@ -2,7 +2,7 @@ use mathlib.Core.Path.{_≡_, sym, _∙_}
 use mathlib.Core.Option.{none}
 use native.Mathlib.Omega.{arith}
 use Rattle.spec.specs.Check.{wrongEntry, wrongPage}
-use Rattle.job.specs.Answer.{accepted}
+use Rattle.laws.specs.Codec.Answer.{accepted}
 use Rattle.job.proofs.Refused.{passed, told, untold, row-hit, row-next}
 use Rattle.job.proofs.from_entry.Statement.{statement}
 use Rattle.job.proofs.from_entry.Tie as tie

@@ -77,7 +77,7 @@ kind-back Search = refl
 kind-back Insert = refl
 kind-back Delete = refl
 
-op-back : (o : Op) → OpFits o → opOf (opBytes o) ≡ o
+pub op-back : (o : Op) → OpFits o → opOf (opBytes o) ≡ o
 unfolding opOf opBytes long word byte four two
 op-back o h =
     λ i. record { kind = kind-back (o .kind) i; call = long-four (o .call) [] (h .call) i; charge = long-four (o .charge) [] (h .charge) i }

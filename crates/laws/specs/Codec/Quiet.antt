@@ -1,11 +1,11 @@
 -- With no turns the charge file in the result is the one that came in, byte for byte.
-use Prim.Native.Nat.{ℕ, zero, suc, _+_, _-_, _*_, _^_}
-use mathlib.Core.Path.{_≡_, refl, ap, _∙_}
-use mathlib.Core.List.{List, [], _++_, append-nil, append-assoc}
+use Prim.Native.Nat.{ℕ, zero, suc, _+_, _-_, _*_, _^_, _<_}
+use mathlib.Core.Path.{_≡_, refl, sym, ap, _∙_}
+use mathlib.Core.List.{List, [], _∷_, _++_, append-nil, append-assoc}
 use mathlib.Core.Option.{none, some}
 use native.Mathlib.Omega.{arith}
 use lib.ListN.{length, take, drop, replicate, drop-of-length-le}
-use Rattle.spec.specs.Basics.{if, each}
+use Rattle.spec.specs.Basics.{if, each, Each}
 use Rattle.spec.specs.Bytes.{AreBytes}
 use Rattle.spec.specs.Job.{Job, fileJob, headerSize, pageSize, tableOffset, opsOffset}
 use Rattle.spec.specs.Encode.{headerBytes, headerFor, encodeJob, encodeFile}
@@ -14,8 +14,10 @@ use Rattle.spec.specs.State.{blank}
 use Rattle.spec.specs.Run.{start, steps, run}
 use Rattle.spec.specs.Result.{underWay, countUnder, fileBytes, fileLeft, resultOf, result}
 use Rattle.spec.specs.Check.{jobFault}
+use Rattle.laws.specs.Tools.{first}
 use Rattle.laws.specs.Codec.Pieces.{behind}
 use Rattle.laws.specs.Codec.Rows.{Rows, accepted-rows, counted}
+use Rattle.laws.specs.Codec.Accepted.{accepted-turns}
 use Rattle.laws.specs.Codec.Forth.{directory-forth, table-forth, encode-decode}
 
 -- an operation not begun is not under way
@@ -63,6 +65,14 @@ module _ (b : List ℕ) (bytes : AreBytes b) (accepted : jobFault b ≡ none) wh
       → fileBytes (result (jobOf b) .file) ≡ headerBytes (headerFor (fileOf b) 0 0) ++ take (opsOffset (headerOf b) - headerSize) (drop headerSize b)
   unfolding fileBytes jobOf
   no-turns-bytes t = ap fileBytes (no-turns b t) ∙ file-kept
+
+  -- a turn names an operation: without operations there are no turns
+  pub no-ops-no-turns : headerOf b .ops ≡ 0 → headerOf b .turns ≡ 0
+  no-ops-no-turns m = sym (counted b .turns) ∙ none-below (jobOf b .turns) (accepted-turns b accepted)
+    where
+      none-below : (ts : List ℕ) → Each (λ t. t < length (jobOf b .ops)) ts → length ts ≡ 0
+      none-below [] h = refl
+      none-below (t ∷ ts) h = absurd (omega (arith, first h, counted b .ops))
 
   -- a charge file, read and written, is the same bytes
   pub charge-file-kept : headerOf b .ops ≡ 0 → headerOf b .turns ≡ 0 → encodeFile (fileOf b) ≡ b

@@ -38,9 +38,12 @@ length-record r = refl
 pub length-records : (rs : List Rec) → length (each recordBytes rs) ≡ recordSize * length rs
 length-records rs = length-each recordBytes recordSize rs (every length-record rs)
 
-length-op : (o : Op) → length (opBytes o) ≡ opSize
+pub length-op : (o : Op) → length (opBytes o) ≡ opSize
 unfolding opBytes four two
 length-op o = refl
+
+pub length-ops : (os : List Op) → length (each opBytes os) ≡ opSize * length os
+length-ops os = length-each opBytes opSize os (every length-op os)
 
 pub length-page : (c : ℕ) (p : Page) → length (p .records) ≤ c → length (pageBytes c p) ≡ pageSize c
 unfolding pageBytes two
@@ -98,7 +101,7 @@ module _ (j : Job) (sized : Sized (j .file)) where
 
   to-turns : length (H ++ D ++ T ++ O) ≡ turnsOffset (headOf j)
   unfolding turnsOffset headerFor
-  to-turns = rw (length-append, to-ops, length-each opBytes 10 _ (every length-op _))
+  to-turns = rw (length-append, to-ops, length-ops)
 
   -- the length that the header tells
   pub length-job : length (encodeJob j) ≡ total (headOf j)

@@ -70,7 +70,12 @@ unfolding orElse
 orElse-none none y = (λ e. (refl, e), λ e. e .1)
 orElse-none (some a) y = (λ e. absurd (Option·none-ne-some _ (sym e)), λ e. e .0)
 
-or-else-assoc : {A : Type 0} (x y z : Option A) → orElse x (orElse y z) ≡ orElse (orElse x y) z
+pub or-else-end : {A : Type 0} (x : Option A) → orElse x none ≡ x
+unfolding orElse
+or-else-end none = refl
+or-else-end (some a) = refl
+
+pub or-else-assoc : {A : Type 0} (x y z : Option A) → orElse x (orElse y z) ≡ orElse (orElse x y) z
 unfolding orElse
 or-else-assoc none y z = refl
 or-else-assoc (some a) y z = refl

@@ -1,16 +1,17 @@
 -- A walk over a list, member by member: what `firstOf` and `anyOf` say by places. The laws are about walks that count from 0, but for those about two
 -- walks at once; one that counts from 1 is such a walk too (`first-from-1`, `any-from-1`).
-use Prim.Native.Nat.{ℕ, zero, suc, _<_}
+use Prim.Native.Nat.{ℕ, zero, suc, _+_, _<_}
 use mathlib.Core.Path.{_≡_, refl, sym, ap, _∙_}
 use mathlib.Core.Logic.{_↔_, Iff·rfl}
-use mathlib.Core.List.{List, [], _∷_}
-use mathlib.Core.Bool.{Bool, false, _||_}
+use mathlib.Core.List.{List, [], _∷_, _++_}
+use mathlib.Core.Bool.{Bool, false, _||_, or-false, or-assoc}
 use mathlib.Core.Option.{Option, none, some, Option·none-ne-some}
 use native.Mathlib.Omega.{arith}
+use native.Mathlib.Nat.{add-zero, add-suc, suc-add}
 use lib.ListN.{length, getD}
 use Rattle.spec.specs.Basics.{orElse, firstOf, anyOf, Each, end}
 use Rattle.laws.specs.Tools.{first, rest}
-use Rattle.laws.specs.Codec.Tools.{or-no, orElse-none, each-cons}
+use Rattle.laws.specs.Codec.Tools.{or-no, orElse-none, or-else-end, or-else-assoc, each-cons}
 
 -- what comes second matters only where the first is not there
 orElse-under : {A : Type 0} (o : Option A) {x y : Option A} → (o ≡ none → x ≡ y) → orElse o x ≡ orElse o y
@@ -79,6 +80,13 @@ module _ {A B : Type 0} where
       all e k before zero l = e
       all e k before (suc q) l = before q (omega arith)
 
+  -- one member more: it is asked last
+  pub first-snoc
+      : (f : ℕ → A → Option B) (i : ℕ) (xs : List A) (x : A) → firstOf f i (xs ++ (x ∷ [])) ≡ orElse (firstOf f i xs) (f (i + length xs) x)
+  unfolding firstOf orElse
+  first-snoc f i [] x = rw add-zero (or-else-end (f i x))
+  first-snoc f i (y ∷ xs) x = rw (first-snoc f (suc i) xs x, suc-add, add-suc i (length xs)) (or-else-assoc (f i y) _ _)
+
   -- nothing is found exactly if every member passes a test that does not ask for its number
   pub first-each : (f : ℕ → A → Option B) (P : A → Type 0) → ((k : ℕ) (x : A) → f k x ≡ none ↔ P x) → (xs : List A) → firstOf f 0 xs ≡ none ↔ Each P xs
   first-each f P h [] = (λ e. end, λ h. first-nil f)
@@ -132,3 +140,9 @@ module _ {A : Type 0} where
       : (f : ℕ → A → Bool) (xs : List A) (d : A) → anyOf f 0 xs ≡ false ↔ ((k : ℕ) → k < length xs → f k (getD xs k d) ≡ false)
   any-none f [] d = (λ e k l. absurd (omega arith), λ h. any-nil f)
   any-none f (x ∷ xs) d = simp (any-cons, or-no, any-none (λ k. f (suc k)) xs d) (by-places (λ k y. f k y ≡ false) x xs d)
+
+  -- one member more
+  pub any-snoc : (f : ℕ → A → Bool) (i : ℕ) (xs : List A) (x : A) → anyOf f i (xs ++ (x ∷ [])) ≡ (anyOf f i xs || f (i + length xs) x)
+  unfolding anyOf
+  any-snoc f i [] x = rw add-zero (or-false (f i x))
+  any-snoc f i (y ∷ xs) x = rw (any-snoc f (suc i) xs x, suc-add, add-suc i (length xs)) (sym (or-assoc (f i y) _ _))

@@ -60,7 +60,7 @@ page-passes h x p ok l unused =
     }
 
 -- an operation's bytes pass row 9
-op-passes : (o : Op) → OpProper o → OpFine (opBytes o)
+pub op-passes : (o : Op) → OpProper o → OpFine (opBytes o)
 unfolding opBytes kindNumber kindOf if long word byte four two
 op-passes o P =
     record {

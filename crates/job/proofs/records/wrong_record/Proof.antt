@@ -14,7 +14,8 @@ use Rattle.laws.specs.Codec.Walk.{first-from-1}
 use Rattle.header.specs.declared.Header.{Header}
 use Rattle.header.specs.Counts.{countsOf}
 use Rattle.job.specs.Owner.{Paged}
-use Rattle.job.proofs.Walk.{spot-some, spot-none, Passed, passed-none, passed-more, passed-hit, passed-all}
+use Rattle.laws.specs.Codec.Passed.{Passed, passed-none, passed-more, passed-hit, passed-all}
+use Rattle.laws.specs.Codec.Answer.{spot-some, spot-none}
 use Rattle.job.proofs.Pages.{PageIs, page-is, page-small, in-use, in-use-at}
 use Rattle.job.proofs.records.wrong_record.Statement.{statement}
 use Rattle.job.proofs.records.wrong_record.Tie as tie

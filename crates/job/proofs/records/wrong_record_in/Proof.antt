@@ -8,7 +8,7 @@ use Rattle.spec.specs.Decode.{pageOf}
 use Rattle.spec.specs.Check.{badRecord, recordFault}
 use Rattle.laws.specs.Codec.Pages.{records-count}
 use Rattle.spec.specs.File.{noRecord}
-use Rattle.job.proofs.Walk.{Clear, clear-none, clear-more, clear-hit, clear-all}
+use Rattle.laws.specs.Codec.Passed.{Clear, clear-none, clear-more, clear-hit, clear-all}
 use Rattle.job.proofs.records.wrong_record_in.Statement.{statement}
 use Rattle.job.proofs.records.wrong_record_in.Tie as tie
 

@@ -10,7 +10,7 @@ use Rattle.spec.specs.Check.{outside, entryFault, wrongEntry}
 use Rattle.header.specs.declared.Header.{Header}
 use Rattle.header.specs.Counts.{Heads}
 use Rattle.header.specs.Sections.{entries-count}
-use Rattle.job.proofs.Walk.{Clear, clear-none, clear-more, clear-hit, clear-all}
+use Rattle.laws.specs.Codec.Passed.{Clear, clear-none, clear-more, clear-hit, clear-all}
 use Rattle.job.proofs.table.wrong_entry.Statement.{statement}
 use Rattle.job.proofs.table.wrong_entry.Tie as tie
 

@@ -13,8 +13,8 @@ use Rattle.laws.specs.Codec.Walk.{first-from-1, first-at}
 use Rattle.header.specs.declared.Header.{Header}
 use Rattle.header.specs.Counts.{countsOf, Heads}
 use Rattle.header.specs.Sections.{pages-count}
-use Rattle.job.specs.Answer.{accepted, refused}
-use Rattle.job.proofs.Walk.{Passed, passed-none, passed-more, passed-end}
+use Rattle.laws.specs.Codec.Answer.{accepted, refused}
+use Rattle.laws.specs.Codec.Passed.{Passed, passed-none, passed-more, passed-end}
 use Rattle.job.proofs.table.wrong_page.Statement.{statement}
 use Rattle.job.proofs.table.wrong_page.Tie as tie
 

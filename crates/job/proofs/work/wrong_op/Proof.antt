@@ -7,7 +7,7 @@ use Rattle.spec.specs.Job.{opPlace}
 use Rattle.spec.specs.Decode.{headerOf, opParts}
 use Rattle.spec.specs.Check.{badOp, opFault, wrongOp}
 use Rattle.header.specs.Sections.{ops-count}
-use Rattle.job.proofs.Walk.{Clear, clear-none, clear-more, clear-hit, clear-all}
+use Rattle.laws.specs.Codec.Passed.{Clear, clear-none, clear-more, clear-hit, clear-all}
 use Rattle.job.proofs.work.wrong_op.Statement.{statement}
 use Rattle.job.proofs.work.wrong_op.Tie as tie
 

@@ -12,7 +12,7 @@ use Rattle.spec.specs.Check.{turnFault, wrongTurn}
 use Rattle.header.specs.declared.Header.{Header}
 use Rattle.header.specs.Counts.{Heads}
 use Rattle.header.specs.Sections.{turns-count, numbers-at}
-use Rattle.job.proofs.Walk.{Clear, clear-none, clear-more, clear-hit, clear-all}
+use Rattle.laws.specs.Codec.Passed.{Clear, clear-none, clear-more, clear-hit, clear-all}
 use Rattle.job.proofs.work.wrong_turn.Statement.{statement}
 use Rattle.job.proofs.work.wrong_turn.Tie as tie
 

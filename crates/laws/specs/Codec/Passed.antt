@@ -1,6 +1,6 @@
 -- A loop over the members of a list that stops at the first fault: what it has passed, and what it answers.
 use Prim.Native.Nat.{ℕ, _+_, _<_, _≤_}
-use mathlib.Core.Path.{_≡_, refl}
+use mathlib.Core.Path.{_≡_}
 use mathlib.Core.List.{List}
 use mathlib.Core.Bool.{Bool, true, false}
 use mathlib.Core.Option.{Option, none, some}
@@ -10,18 +10,7 @@ use borrow.Author.Count.{below-none, below-more}
 use Rattle.spec.specs.declared.Spot.the-variants.{At, Nowhere}
 use Rattle.spec.specs.Basics.{when, firstOf}
 use Rattle.spec.specs.Cases.{spotOf}
 use Rattle.laws.specs.Codec.Walk.{first-none, first-at}
-
--- what an answer says of the definition
-pub spot-some : (o : Option ℕ) (p : ℕ) → At p ≡ spotOf o → o ≡ some p
-unfolding spotOf
-spot-some none p e = let z : _≡_ {A = ℕ} 0 1 = cc in absurd (omega arith)
-spot-some (some q) p e = let z : p ≡ q = cc in rw z
-
-pub spot-none : (o : Option ℕ) → Nowhere ≡ spotOf o → o ≡ none
-unfolding spotOf
-spot-none none e = refl
-spot-none (some q) e = let z : _≡_ {A = ℕ} 0 1 = cc in absurd (omega arith)
 
 module _ {A B : Type 0} (f : ℕ → A → Option B) (xs : List A) (d : A) where
   -- no member below k has a fault
