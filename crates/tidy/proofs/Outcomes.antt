@@ -1,43 +1,24 @@
 -- What a call comes to, refused or done, step by step.
-use Prim.Native.Nat.{ℕ, _+_, _≤_}
-use mathlib.Core.Path.{_≡_, _∙_}
+use Prim.Native.Nat.{ℕ}
+use mathlib.Core.Path.{_≡_}
 use mathlib.Core.List.{List}
 use mathlib.Core.Option.{Option, none, some}
 use lib.ListN.{length}
 use borrow.Author.Tests.{eq-eqb, ne-eqb}
 use Rattle.spec.specs.declared.Outcome.{Outcome}
-use Rattle.spec.specs.declared.Outcome.the-variants.{Done, Refused}
 use Rattle.spec.specs.Basics.{when, orElse}
 use Rattle.spec.specs.Bytes.{AreBytes}
 use Rattle.spec.specs.Decode.{headerOf, fileOf}
 use Rattle.spec.specs.Check.{Fault, numbered, jobFault}
-use Rattle.spec.specs.Outcome.{outcomeBy, afterCall, bufferBy}
 use Rattle.spec.specs.Tidy.{tidyBytes, opsPresent, tidyFault, tidyOutcome, tidyBuffer}
 use Rattle.laws.specs.Codec.Accepted.{file-ok}
 use Rattle.laws.specs.Tidy.Bytes.{joined, tidied}
 use Rattle.header.specs.declared.Header.{Header}
 use Rattle.header.specs.Counts.{countsOf}
 use Rattle.header.specs.Accepted.{accepted-heads}
-use Rattle.wire.specs.Over.{over}
-use Rattle.wire.specs.OverLaws.{over-front}
+use Rattle.wire.specs.Comes.{Comes}
 use Rattle.tidy.specs.Given.{Given}
-use Rattle.tidy.specs.Call.{Settled, outputFault, fileFault, Comes}
-
--- refused: nothing is written; done: the tidied file stands first, and what lies behind it is as it was
-pub comes-refused : {fault : Option Fault} {d : ℕ} {b s : List ℕ} (n p : ℕ) → fault ≡ some (record { number = n; place = p }) → Comes fault d b s s (Refused n p)
-unfolding outcomeBy bufferBy afterCall
-comes-refused n p e = record { answer = rw e; output = rw e }
-
-pub comes-done
-    : {fault : Option Fault} {d : ℕ} {b s t : List ℕ} {n : ℕ}
-    → fault ≡ none
-    → n ≡ length (tidyBytes d b)
-    → t ≡ over s 0 (tidyBytes d b)
-    → length (tidyBytes d b) ≤ length s
-    → Comes fault d b s t (Done n)
-unfolding outcomeBy bufferBy afterCall
-comes-done {d = d} {b = b} {s = s} e l w u =
-    record { answer = rw (e, l); output = rw e (w ∙ over-front (tidyBytes d b) s u) }
+use Rattle.tidy.specs.Call.{Settled, outputFault, fileFault}
 
 -- 18, or what is behind it
 ops-there : (b : List ℕ) → (headerOf b .ops ≡ 0 → ⊥) → opsPresent b ≡ some 8
@@ -74,8 +55,8 @@ pub settled
     : {fault : Option Fault} {d : ℕ} {b s t : List ℕ} {r : Outcome}
     → AreBytes b
     → tidyFault (length s) d b ≡ fault
-    → Comes fault d b s t r
+    → Comes fault (tidyBytes d b) s t r
     → Settled b d s t r
 unfolding tidyOutcome tidyBuffer
 settled {d = d} {b = b} {s = s} bytes e c =
-    record { answer = rw e (c .answer); output = rw e (c .output); joined = λ n. joined (fileOf b) (file-ok b n); tidied = tidied (length s) d b bytes }
+    record { answer = rw e (c .answer); output = rw e (c .buffer); joined = λ n. joined (fileOf b) (file-ok b n); tidied = tidied (length s) d b bytes }

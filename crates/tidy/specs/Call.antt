@@ -8,8 +8,7 @@ use Rattle.spec.specs.declared.Outcome.{Outcome}
 use Rattle.spec.specs.Basics.{orElse}
 use Rattle.spec.specs.Decode.{fileOf}
 use Rattle.spec.specs.Check.{Fault, numbered, jobFault}
-use Rattle.spec.specs.Outcome.{outcomeBy, bufferBy}
-use Rattle.spec.specs.Tidy.{opsPresent, wrongDepth, smallOut, tidyBytes, tidyFault, tidyOutcome, tidyBuffer}
+use Rattle.spec.specs.Tidy.{opsPresent, wrongDepth, smallOut, tidyFault, tidyOutcome, tidyBuffer}
 use Rattle.spec.specs.Tidied.{Joined, Tidied}
 
 -- The whole outcome for the bytes b and the wanted depth d, done or refused: what is answered, and the output buffer afterwards, which was s;
@@ -27,8 +26,3 @@ outputFault room d b = orElse (numbered 19 (wrongDepth d b)) (numbered 11 (small
 
 abbrev pub fileFault : ℕ → ℕ → List ℕ → Option Fault
 fileFault room d b = orElse (numbered 18 (opsPresent b)) (outputFault room d b)
-
--- the outcome and the buffer where this is the first fault, or there is none
-pub record Comes (fault : Option Fault) (d : ℕ) (b s t : List ℕ) (r : Outcome) : Type 0 where
-  pub answer : r ≡ outcomeBy fault (tidyBytes d b)
-  pub output : t ≡ bufferBy fault (tidyBytes d b) s

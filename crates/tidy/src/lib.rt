@@ -20,8 +20,9 @@ ghost use Rattle.laws.specs.Tidy.Entries.{depthsLeft};
 ghost use Rattle.header.specs.Counts.{countsOf};
 ghost use Rattle.header.specs.File.{fileSize};
 ghost use Rattle.wire.specs.Over.{over};
+ghost use Rattle.wire.specs.Comes.{Comes};
 ghost use Rattle.tidy.specs.Given.{Given, anyDeeper};
-ghost use Rattle.tidy.specs.Call.{Settled, outputFault, fileFault, Comes};
+ghost use Rattle.tidy.specs.Call.{Settled, outputFault, fileFault};
 
 // ---- what is refused of an accepted file
 
@@ -75,7 +76,7 @@ fn write(file: &[u8], h: Header, left: &[u8], depth: usize, out: &mut [u8]) -> u
 // An accepted file without operations, whose pages left have these depths.
 fn tidy_left(file: &[u8], h: Header, left: &[u8], depth: usize, out: &mut [u8]) -> Outcome
     requires { ⌜ Given h (now file) × (now left ≡ depthsLeft (fileOf (now file)) 0) ⌝ }
-    ensures { λ r. ⌜ Comes (outputFault (length (now (out .entry))) depth (now (file .entry))) depth (now (file .entry)) (now (out .entry)) (now (out .exit)) r ⌝ }
+    ensures { λ r. ⌜ Comes (outputFault (length (now (out .entry))) depth (now (file .entry))) (tidyBytes depth (now (file .entry))) (now (out .entry)) (now (out .exit)) r ⌝ }
 {
     let c = wrong_output(h, left, depth, out.len());
     if let Checked::Refused(number, place) = c {
@@ -87,7 +88,7 @@ fn tidy_left(file: &[u8], h: Header, left: &[u8], depth: usize, out: &mut [u8]) 
 // An accepted file. 18: "operations present, at their count".
 fn tidy_file(file: &[u8], h: Header, depth: usize, out: &mut [u8]) -> Outcome
     requires { ⌜ Given h (now file) ⌝ }
-    ensures { λ r. ⌜ Comes (fileFault (length (now (out .entry))) depth (now (file .entry))) depth (now (file .entry)) (now (out .entry)) (now (out .exit)) r ⌝ }
+    ensures { λ r. ⌜ Comes (fileFault (length (now (out .entry))) depth (now (file .entry))) (tidyBytes depth (now (file .entry))) (now (out .entry)) (now (out .exit)) r ⌝ }
 {
     if h.ops != 0 {
         return Outcome::Refused(18, 8);

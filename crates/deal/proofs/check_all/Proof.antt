@@ -11,7 +11,7 @@ use Rattle.laws.specs.Codec.Rows.{accepted-header}
 use Rattle.laws.specs.Codec.AsBytes.{are-bytes}
 use Rattle.header.specs.declared.Header.{Header}
 use Rattle.header.specs.Counts.{countsOf}
-use Rattle.job.specs.Answer.{accepted, refused}
+use Rattle.laws.specs.Codec.Answer.{accepted, refused}
 use Rattle.deal.proofs.Ends.{by-job, by-turns, by-lent, by-none}
 use borrow.Author.Needs.{needs}
 use Rattle.deal.proofs.check_all.Statement.{statement}

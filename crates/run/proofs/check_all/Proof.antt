@@ -4,7 +4,7 @@ use native.Mathlib.Omega.{arith}
 use Rattle.spec.specs.Check.{jobFault}
 use Rattle.laws.specs.Codec.Rows.{accepted-header}
 use Rattle.header.specs.Accepted.{accepted-heads}
-use Rattle.job.specs.Answer.{accepted, refused}
+use Rattle.laws.specs.Codec.Answer.{accepted, refused}
 use Rattle.laws.specs.Codec.AsBytes.{are-bytes}
 use Rattle.run.proofs.Ends.{by-job, by-lent, by-none}
 use borrow.Author.Needs.{needs}

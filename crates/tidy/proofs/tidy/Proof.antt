@@ -7,8 +7,9 @@ use Rattle.spec.specs.Bytes.{AreBytes}
 use Rattle.spec.specs.Check.{jobFault}
 use Rattle.laws.specs.Codec.Rows.{accepted-header}
 use Rattle.laws.specs.Codec.AsBytes.{are-bytes}
-use Rattle.job.specs.Answer.{accepted, refused}
-use Rattle.tidy.proofs.Outcomes.{comes-refused, by-file, by-job, given, settled}
+use Rattle.laws.specs.Codec.Answer.{accepted, refused}
+use Rattle.wire.specs.Comes.{comes-refused}
+use Rattle.tidy.proofs.Outcomes.{by-file, by-job, given, settled}
 use Rattle.tidy.proofs.tidy.Statement.{statement}
 use Rattle.tidy.proofs.tidy.Tie as tie
 

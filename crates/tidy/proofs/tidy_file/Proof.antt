@@ -4,7 +4,8 @@ use native.Mathlib.Omega.{arith}
 use lib.Seq.{length-take-le}
 use borrow.Author.Needs.{needs}
 use Rattle.spec.specs.Job.{Header as Counts}
-use Rattle.tidy.proofs.Outcomes.{comes-refused, by-ops, by-output}
+use Rattle.wire.specs.Comes.{comes-refused, comes-by}
+use Rattle.tidy.proofs.Outcomes.{by-ops, by-output}
 use Rattle.tidy.proofs.tidy_file.Statement.{statement}
 use Rattle.tidy.proofs.tidy_file.Tie as tie
 
@@ -37,8 +38,7 @@ returns-2 : tie.Need-returns-2
 returns-2 c =
     let a = c .before .before .before .before .before .before .before .before .before .before .before .before in
     let none = sym (ap (λ (h : Counts). h .ops) (a .pre .heads .counts)) ∙ c .before .before .before .before .before .before .before .before .if1 .left in
-    let t = c .before .before .tidy-left .ensures in
-    record { answer = rw (by-output _ _ _ none) (t .answer); output = rw (by-output _ _ _ none) (t .output) }
+    comes-by (by-output _ _ _ none) (c .before .before .tidy-left .ensures)
 
 pub tidy-file-spec : {M : Type 1} → statement M
 tidy-file-spec =

@@ -3,10 +3,10 @@ use mathlib.Core.Path.{_≡_, sym, _∙_}
 use mathlib.Core.Option.{none}
 use lib.ListN.{length}
 use borrow.Author.Needs.{needs}
-use Rattle.job.specs.Answer.{accepted, refused}
+use Rattle.laws.specs.Codec.Answer.{accepted, refused}
 use Rattle.tidy.specs.Call.{outputFault}
 use Rattle.tidy.proofs.Refused.{passed-wanted, passed-room, tidied-length}
-use Rattle.tidy.proofs.Outcomes.{comes-refused, comes-done}
+use Rattle.wire.specs.Comes.{comes-refused, comes-done}
 use Rattle.tidy.proofs.tidy_left.Statement.{statement}
 use Rattle.tidy.proofs.tidy_left.Tie as tie
 
