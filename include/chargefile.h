@@ -1,5 +1,5 @@
 /*
- * The charge file and its turns: the library's four calls, for C (C99 on) and C++.
+ * The charge file and its turns: the library's five calls, for C (C99 on) and C++.
  *
  * A job is a charge file (an extendible hash file of call numbers and charges), a list of
  * operations on it, and a list of turns that says which operation takes the next step.
@@ -7,18 +7,20 @@
  * job turn by turn and writes its result. Whoever has no turns lets chargefile_deal make the list:
  * it writes the same job with turns that finish every operation. Between two runs, chargefile_tidy
  * joins the thin pages of a charge file and writes it with the depth that is wanted.
- * docs/FORMAT.md has every byte of a job and of a result, and what tidying and dealing do; names
- * for its numbers are in chargefile_format.h, which this file includes: keep the two together.
+ * chargefile_price works out the charges of a switch's log by a tariff, as inserts for a job.
+ * docs/FORMAT.md has every byte of a job, of a result, of a tariff and of a log, and what tidying,
+ * dealing and pricing do; names for its numbers are in chargefile_format.h and chargefile_tariff.h,
+ * which this file includes: keep the three together.
  *
  * Proved, for every input (crates/chargefile/specs/Called.antt, crates/run/specs/Call.antt,
  * crates/deal/specs/Call.antt with crates/spec/specs/Dealt.antt, crates/tidy/specs/Call.antt with
- * crates/spec/specs/Tidied.antt):
+ * crates/spec/specs/Tidied.antt, crates/tariff/specs/Call.antt with crates/spec/specs/Priced.antt):
  *
- *   - Any bytes may be handed over as a job or as a charge file. A call always ends, with its
- *     output or with one numbered refusal.
+ *   - Any bytes may be handed over as a job, a charge file, a tariff or a log. A call always ends,
+ *     with its output or with one numbered refusal.
  *   - A refused call has written to no lent memory whatever: every lent byte and row is what it
  *     was. (Number and place of the refusal are returned by value.)
- *   - The bytes of the job or of the charge file are never written.
+ *   - The bytes that are handed over to be read are never written.
  *   - Refusal 0 is told exactly when no row of the refusal table that belongs to the call holds.
  *   - A job that meets no row that belongs to chargefile_run is run. What then stands in the result
  *     buffer is explained by its own log: the answered operations done one at a time in the log's
@@ -38,6 +40,10 @@
  *     written is accepted as a job by itself, so that it can be run like any other. It holds the
  *     same calls with the same charges, no two of its pages can be joined, and tidied again at the
  *     same depth it comes out the same.
+ *   - A tariff and a log that meet no row that belongs to chargefile_price come to one insert for
+ *     each record, in the log's order, with the charge by the only band that has the record's code.
+ *     What is then written is an operations section of a job as it stands: put behind a charge
+ *     file, under a header that counts them, up to CHARGEFILE_OPERATIONS_MAX of them are accepted.
  *
  * The caller's part, which no proof of the library can see to:
  *
@@ -49,14 +55,16 @@
  *     and needs no alignment.
  *
  * The library keeps nothing between calls, allocates nothing, reads no clock and takes no lock of
- * the system. Two threads may call it at once: they may share what is only read, a job or a charge
- * file, and nothing else. It is built for x86-64 with the System V calling convention. Of the C
- * library it needs the functions that fill and copy memory (memset and its like), and no other.
+ * the system. Two threads may call it at once: they may share what is only read, a job, a charge
+ * file, a tariff or a log, and nothing else. It is built for x86-64 with the System V calling
+ * convention. Of the C library it needs the functions that fill and copy memory (memset and its
+ * like), and no other.
  */
 #ifndef CHARGEFILE_H
 #define CHARGEFILE_H
 
 #include "chargefile_format.h"
+#include "chargefile_tariff.h"
 
 #if defined(_WIN32)
 #error "the library is built for the System V calling convention of x86-64"
@@ -70,9 +78,10 @@ extern "C" {
  * ---- Refusals. Rows are tried in the order of this table, which is not quite that of the numbers,
  * and within a row the lowest place is told. 12, 6 and 13 go page by page: all three are tried on
  * page 1, then all three on page 2, and so on; on a page that is not in use, 13 alone. Rows 18 and
- * 19 belong to chargefile_tidy alone, row 21 to chargefile_deal alone, row 11 to the three calls
- * that are lent something, and all others to every call. Places count bytes from the start of the
- * job or of the charge file, but for 1, 19 and 11. docs/FORMAT.md finds the field of any place.
+ * 19 belong to chargefile_tidy alone, row 21 to chargefile_deal alone, row 11 to the calls that
+ * are lent something, and all others to every call but chargefile_price, which has a table of its
+ * own below. Places count bytes from the start of the job or of the charge file, but for 1, 19
+ * and 11. docs/FORMAT.md finds the field of any place.
  *
  *   No.  When                                                        Place
  *    1   the job is under 32 bytes                                   its length
@@ -97,10 +106,25 @@ extern "C" {
  *        that is left after joining
  *   21   turns are present: a list is there already                  their count, 10
  *   11   too little is lent, and nothing else is wrong               one of chargefile_small
+ *
+ * The rows of chargefile_price, in their order. 9, 14 and 15 go record by record: all three are
+ * tried on the first record, then all three on the second, and so on. Places count bytes from the
+ * start of the tariff for its 1 and for 16, and of the log for its 1 and for 9, 14 and 15.
+ *
+ *   No.  When                                                        Place
+ *    1   the tariff is not whole bands of 20 bytes                   its length
+ *    1   the log is not whole records of 16 bytes                    its length
+ *   16   the tariff has more than 32 bands                           its length
+ *        a band has the code of an earlier one, or its unit is not   the band
+ *        from 1 to 3,600 seconds
+ *    9   a record's zero byte is not zero                            the record
+ *   14   no band has the record's code                               the record
+ *   15   its charge is above 4,294,967,295                           the record
+ *   11   the output is under 10 bytes a record                       CHARGEFILE_SMALL_OUTPUT
  */
 enum chargefile_refusal {
     CHARGEFILE_ACCEPTED = 0, /* no refusal */
-    CHARGEFILE_REFUSED_SHORT = 1,
+    CHARGEFILE_REFUSED_SHORT = 1, /* of a tariff or a log: its length is not whole parts */
     CHARGEFILE_REFUSED_VERSION = 2,
     CHARGEFILE_REFUSED_LIMIT = 3,
     CHARGEFILE_REFUSED_OFFSET = 4,
@@ -108,18 +132,21 @@ enum chargefile_refusal {
     CHARGEFILE_REFUSED_PAGE = 6, /* a page's record count */
     CHARGEFILE_REFUSED_OWNER = 7,
     CHARGEFILE_REFUSED_RECORD = 8,
-    CHARGEFILE_REFUSED_OPERATION = 9,
+    CHARGEFILE_REFUSED_OPERATION = 9, /* or a log record's zero byte */
     CHARGEFILE_REFUSED_TURN = 10,
     CHARGEFILE_REFUSED_OUTPUT = 11,
     CHARGEFILE_REFUSED_PATTERN = 12, /* the depth of a page, or its pattern */
     CHARGEFILE_REFUSED_ZERO = 13,    /* a byte that must be zero */
+    CHARGEFILE_REFUSED_BAND = 14,    /* a record's band, which is not in the tariff */
+    CHARGEFILE_REFUSED_CHARGE = 15,  /* a record's charge, which is too large */
+    CHARGEFILE_REFUSED_TARIFF = 16,  /* a band of the tariff, or their number */
     CHARGEFILE_REFUSED_PRESENT = 18, /* operations, where a charge file is wanted */
     CHARGEFILE_REFUSED_DEPTH = 19,   /* the wanted depth */
     CHARGEFILE_REFUSED_DEALT = 21    /* turns, where they are to be dealt */
 };
 
 /* The places of refusal 11: what is too small. The output is what a call writes, a result, a job
- * with its list or a tidied file; each call says how many bytes it must be lent for it. */
+ * with its list, a tidied file or inserts; each call says how many bytes it must be lent for it. */
 enum chargefile_small {
     CHARGEFILE_SMALL_OUTPUT = 0,
     CHARGEFILE_SMALL_RESULT = CHARGEFILE_SMALL_OUTPUT, /* the output of a run */
@@ -161,8 +188,8 @@ typedef char chargefile_outcome_has_24_bytes[sizeof(chargefile_outcome) == 24 ? 
 typedef char chargefile_size_has_8_bytes[sizeof(size_t) == 8 ? 1 : -1];
 
 /*
- * Checks the job_length bytes at `job`, for every refusal but 18, 19, 21 and 11. Nothing is
- * written; a check has no output, so the length is 0.
+ * Checks the job_length bytes at `job`, for refusals 1 to 10, 12 and 13. Nothing is written; a check
+ * has no output, so the length is 0.
  */
 chargefile_outcome chargefile_check(const uint8_t *job, size_t job_length);
 
@@ -242,6 +269,33 @@ chargefile_outcome chargefile_deal(const uint8_t *job, size_t job_length, uint8_
  */
 chargefile_outcome chargefile_tidy(const uint8_t *file, size_t file_length, uint64_t depth,
                                    uint8_t *out, size_t out_length);
+
+/*
+ * Works out the charge of every call in the switch's log of log_length bytes at `log`, by the
+ * tariff of tariff_length bytes at `tariff`, and writes an insert for each record to `out`, in the
+ * log's order: the operations of a job, CHARGEFILE_OPERATION_SIZE bytes each.
+ *
+ * A call of no seconds costs nothing. Any other costs the fee of its band, and the band's price for
+ * each started unit beyond the free seconds: the price of the class of the hour in which the call
+ * starts. The hour is start / 3,600, rounded down, modulo 24.
+ *
+ * Tried in this order: the tariff's length and then the log's (refusal 1); the bands (16); record
+ * by record, its zero byte (9), its band (14) and its charge (15); what is lent (11). The log may
+ * have any number of records. A call number may come twice: which insert is then stored is decided
+ * by the run.
+ *
+ * Lent:
+ *   out      at least CHARGEFILE_PRICED_SIZE(log_length) bytes. It must overlap neither `tariff`
+ *            nor `log`.
+ * More may be lent. What it holds beforehand does not matter. No working memory is needed.
+ *
+ * Refusal 0: all calls have their charges. Then
+ *   - the inserts stand at the start of `out`, and `length` is their length;
+ *   - the bytes of `out` past that length keep their values.
+ * Any other number: `out` is as it was.
+ */
+chargefile_outcome chargefile_price(const uint8_t *tariff, size_t tariff_length, const uint8_t *log,
+                                    size_t log_length, uint8_t *out, size_t out_length);
 
 #ifdef __cplusplus
 }

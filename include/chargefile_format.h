@@ -139,6 +139,19 @@ static inline uint32_t chargefile_four(const uint8_t *bytes)
     return chargefile_two(bytes) | chargefile_two(bytes + 2) << 16;
 }
 
+/* Writes the low 2, or all 4, bytes of a number, little-endian. */
+static inline void chargefile_put_two(uint8_t *bytes, uint32_t number)
+{
+    bytes[0] = (uint8_t)number;
+    bytes[1] = (uint8_t)(number >> 8);
+}
+
+static inline void chargefile_put_four(uint8_t *bytes, uint32_t number)
+{
+    chargefile_put_two(bytes, number);
+    chargefile_put_two(bytes + 2, number >> 16);
+}
+
 /*
  * CHARGEFILE_RESULT_SIZE for the counts in a job's header. Meant for a job that chargefile_check
  * has accepted. It asks no more than the header: 0 where that is cut off, or where the depth is

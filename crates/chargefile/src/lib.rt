@@ -4,7 +4,7 @@ use spec::Outcome;
 use turn::Row;
 ghost use mathlib.Core.Path.{_≡_};
 ghost use Rattle.chargefile.specs.Handed.{outcomeOf, handed};
-ghost use Rattle.chargefile.specs.Called.{CheckCalled, Called, DealCalled, TidyCalled};
+ghost use Rattle.chargefile.specs.Called.{CheckCalled, Called, DealCalled, TidyCalled, PriceCalled};
 
 // What a call comes to. refusal 0: done, and length is the output's; else its number, with place, and length 0.
 // It is given by value, so that a refused call has written to no lent memory whatever.
@@ -88,5 +88,15 @@ pub extern "C" fn chargefile_tidy(file: &[u8], depth: u64, out: &mut [u8]) -> Ca
     ensures { λ r. ⌜ TidyCalled (now (file .entry)) depth (now (out .entry)) (now (out .exit)) r ⌝ }
 {
     let o = tidy::tidy(file, depth as usize, out);
+    handed(o)
+}
+
+// The calls of the switch's log priced by a tariff: an insert for each record. Any bytes may be handed over as either, and any length lent: what cannot
+// be is refused.
+#[no_mangle]
+pub extern "C" fn chargefile_price(tariff: &[u8], log: &[u8], out: &mut [u8]) -> CallOutcome
+    ensures { λ r. ⌜ PriceCalled (now (tariff .entry)) (now (log .entry)) (now (out .entry)) (now (out .exit)) r ⌝ }
+{
+    let o = tariff::price(tariff, log, out);
     handed(o)
 }

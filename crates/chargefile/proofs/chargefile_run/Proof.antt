@@ -1,5 +1,5 @@
 -- `chargefile::chargefile_run` meets its contract: a walk of its MIR, by hand, since the borrow checker covers no `&mut` slice of structs. `run` is called, and its outcome goes to `handed`, whose numbers are returned by value.
--- What is lent goes to `run` for good, at its own lifetimes (`gave-slice`). Of the job nothing is kept (`stay-dropped`). All that the proof knows of `run` and of `handed` is that they meet their contracts; what they say together is `called`.
+-- What is lent goes to `run` for good, at its own lifetimes (`gave-slice`). Of the job nothing is kept (`stay-dropped`). All that the proof knows of `run` and of `handed` is that they meet their contracts; what they say together is `run-called`.
 -- Assumes nothing.
 use mathlib.Core.Path.{_≡_, refl}
 use Prim.Native.Nat.{ℕ}
@@ -46,7 +46,7 @@ use Rattle.chargefile.specs.Handed as spec
 use Rattle.chargefile.specs.Called.{Called}
 use Rattle.chargefile.proofs.CallOutcome as Co
 use Rattle.chargefile.proofs.CallOutcome.Laws as Co′
-use Rattle.chargefile.proofs.Laws.{called}
+use Rattle.chargefile.proofs.Laws.{run-called}
 use Rattle.chargefile.proofs.handed as handed
 use Rattle.chargefile.proofs.chargefile_run.Key.{name as #chargefile·chargefile-run}
 use Rattle.chargefile.proofs.chargefile_run as fn′
@@ -121,7 +121,7 @@ module _ {M : Type 1} (𝓤 : URA M) (H : Heap 𝓤) (A : Atoms 𝓤) (W : Given
         returns ! (look ! 28 refl) $ forget ! 6 refl $ forget ! 8 refl $ forget ! 10 refl $ forget ! 12 refl $ forget ! 14 refl $ forget ! 16 refl $ forget ! 18 refl $ forget ! 20 refl $ forget ! 22 refl $ forget ! 24 refl $ forget ! 26 refl $ forget ! 28 refl $
         move ! (28 ∷ 29 ∷ []) $ free1 ! $ move ! (26 ∷ 27 ∷ []) $ free1 ! $ move ! (24 ∷ 25 ∷ []) $ free1 ! $ move ! (22 ∷ 23 ∷ []) $ free1 ! $ move ! (20 ∷ 21 ∷ []) $ free1 ! $ move ! (18 ∷ 19 ∷ []) $ free1 ! $
         move ! (16 ∷ 17 ∷ []) $ free1 ! $ move ! (14 ∷ 15 ∷ []) $ free1 ! $ move ! (12 ∷ 13 ∷ []) $ free1 ! $ move ! (10 ∷ 11 ∷ []) $ free1 ! $ move ! (8 ∷ 9 ∷ []) $ free1 ! $ move ! (6 ∷ 7 ∷ []) $ free1 ! $ free0 ! $
-        keep ! (5 ∷ 4 ∷ 3 ∷ 2 ∷ 0 ∷ []) $ by ! (exits (zs .1 .0) (zs .1 .1 .0) (zs .1 .1 .1 .0) r v′ c₁ c₂ c₃ (called o e₁ e₂)))))))))))))))))))))
+        keep ! (5 ∷ 4 ∷ 3 ∷ 2 ∷ 0 ∷ []) $ by ! (exits (zs .1 .0) (zs .1 .1 .0) (zs .1 .1 .1 .0) r v′ c₁ c₂ c₃ (run-called o e₁ e₂)))))))))))))))))))))
 
 module _ {M : Type 1} (𝓤 : URA M) (H : Heap 𝓤) (A : Atoms 𝓤) (W : Given 𝓤 H A) (mem : Memory → SProp 𝓤) (run : Routine → Fun 𝓤) where
   walks : (C : Calls 𝓤 H) (Λ : Loops 𝓤 H) → FmC 𝓤 H (W .laws) C → Meets 𝓤 H A run′.signature (C run′.Symbol.name) (run′.spec 𝓤 H A mem run) → Meets 𝓤 H A handed.signature (C handed.Symbol.name) (handed.spec 𝓤 H A mem run) → Walks 𝓤 H A fn′.ended stayed (WpFn 𝓤 H C Λ code.function) (fn′.clauses 𝓤 H A mem run)
