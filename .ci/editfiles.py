@@ -1,6 +1,6 @@
 """Edit files: each says in words what is wrong, and then which texts of a crate's files are replaced by which.
 
-    refused at: FILE THEOREM      (of a wrong definition: a place where the theorems must refuse it)
+    refused at: FILE THEOREM      (of a wrong definition: a place where the theorems of laws, or the tables of spec, must refuse it)
     file: src/lib.rt              (holds for the replacements after it)
     old: a text that the file has once
     new: what is put in its place
@@ -10,6 +10,7 @@ from collections import namedtuple
 
 ROOT = pathlib.Path(__file__).resolve().parent.parent
 LAWS = ROOT / "crates/laws/specs"
+SPEC = ROOT / "crates/spec/specs"
 HEAD = re.compile(r" *(?:pub )?(\S+) :|(?:pub )?(\S+)$")  # of a theorem, also in a section; a name may have its line alone
 
 # crate: the one that is changed; places: where it must be refused; pairs: its replacements (file, old, new)
@@ -37,17 +38,22 @@ def must_fail():
 
 def finer():
     """The wrong programs that rt ci does not try."""
-    return [read(path.parent.name, path) for path in sorted((ROOT / "tests/edits").glob("*/*.edit"))]
+    return [read(path.parent.name, path) for path in sorted((ROOT / "tests/edits").glob("*/*.edit")) if path.parent.name != "spec"]
 
 
 def wrong_programs():
     """Those that .ci/wrong tries, each with what it touches: all wrong programs."""
-    return [edit for edit in must_fail() if edit.crate != "spec"] + finer()
+    return must_fail() + finer()
 
 
-def wrong_definitions():
-    """Those that .ci/edits puts to the theorems."""
+def by_theorems():
+    """The wrong definitions that .ci/edits puts to the theorems of laws."""
     return [read("spec", path) for path in sorted((ROOT / "tests/edits").glob("*.edit"))]
+
+
+def by_tables():
+    """The wrong definitions that .ci/edits puts to the tables of spec."""
+    return [read("spec", path) for path in sorted((ROOT / "tests/edits/spec").glob("*.edit"))]
 
 
 def heads(lines):
@@ -55,11 +61,11 @@ def heads(lines):
     return [head[1] or head[2] for head in map(HEAD.match, lines) if head]
 
 
-def named(at):
+def named(at, root=LAWS):
     """The files of a place, by their names without ending: those of the folder, or the one, that have the theorem, where one is named."""
-    files = [LAWS / f"{at[0]}.antt"] if not (LAWS / at[0]).is_dir() else sorted((LAWS / at[0]).glob("*.antt"))
+    files = [root / f"{at[0]}.antt"] if not (root / at[0]).is_dir() else sorted((root / at[0]).glob("*.antt"))
     there = [path for path in files if path.is_file() and (len(at) == 1 or at[1] in heads(path.read_text().splitlines()))]
-    return {path.relative_to(LAWS).with_suffix("").as_posix() for path in there}
+    return {path.relative_to(root).with_suffix("").as_posix() for path in there}
 
 
 def misfit(edit):
