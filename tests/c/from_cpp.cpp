@@ -28,6 +28,27 @@ chargefile_outcome cpp_deal(const uint8_t *job, size_t job_length, uint8_t *out,
                            memory_length);
 }
 
+chargefile_outcome cpp_price(const uint8_t *tariff, size_t tariff_length, const uint8_t *log,
+                             size_t log_length, uint8_t *out, size_t out_length)
+{
+    return chargefile_price(tariff, tariff_length, log, log_length, out, out_length);
+}
+
+void cpp_put_band(uint8_t *bytes, chargefile_band band)
+{
+    chargefile_put_band(bytes, band);
+}
+
+void cpp_put_logged(uint8_t *bytes, chargefile_logged logged)
+{
+    chargefile_put_logged(bytes, logged);
+}
+
+size_t cpp_priced_size(size_t log_length)
+{
+    return CHARGEFILE_PRICED_SIZE(log_length);
+}
+
 size_t cpp_result_size(const uint8_t *job, size_t job_length)
 {
     return chargefile_result_size(job, job_length);

@@ -21,5 +21,8 @@ void tidied_tests(void);     /* what tidying writes */
 void not_tidied_tests(void); /* what tidying refuses */
 void dealt_tests(void);      /* the turns that are dealt for a job */
 void not_dealt_tests(void);  /* for which jobs none are dealt */
+void tariff_tests(void);     /* the numbers of the tariff's header are the document's */
+void priced_tests(void);     /* what the calls of a switch's log cost */
+void not_priced_tests(void); /* which tariffs and logs are refused */
 
 #endif

@@ -23,5 +23,8 @@ int main(void)
     not_tidied_tests();
     dealt_tests();
     not_dealt_tests();
+    tariff_tests();
+    priced_tests();
+    not_priced_tests();
     return all_counted();
 }

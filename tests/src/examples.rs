@@ -6,6 +6,7 @@ use std::collections::BTreeSet;
 use crate::by_hand::{delete, delete_at, insert, search};
 use crate::deal;
 use crate::examples_parts::{brimful, even_file, filled, parted_file, rounds};
+use crate::examples_priced::{inn, priced};
 use crate::examples_refused::{exchanged, leftover, misfiled, wide};
 use crate::job::{Job, MAX_CAPACITY, MAX_DEPTH, MAX_OPERATIONS, MAX_PAGES, MAX_TURNS};
 use crate::make_rounds::hotel_of_forty;
@@ -42,6 +43,8 @@ pub fn examples() -> Vec<Example> {
         example("school", school()),
         example("evening", evening()),
         example("dealt", dealt()),
+        example("inn", inn()),
+        example("priced", priced()),
         example("stale", stale()),
         example("late", late()),
         example("bursars", bursars()),

@@ -15,6 +15,7 @@
 //! - [`report`]: what `chargelog` prints;
 //! - [`tidy`]: the bytes of a tidied charge file, or the refusal;
 //! - [`deal`]: the bytes of a job with turns dealt for it, or the refusal;
+//! - [`price`]: the inserts of a switch's log at their charges, or the refusal;
 //! - [`page::Page`] and [`split`]: find, add, remove and split a page;
 //! - [`make`], [`damage`], [`damage_pages`], [`damage_records`] and [`seeds`]:
 //!   random jobs, damaged jobs, and seeds that can be repeated;
@@ -29,6 +30,7 @@
 //!   they can, and how many that is;
 //! - [`make_rounds`] and [`rounds`]: jobs in which many operations want one page, and
 //!   rounds of turns that finish everybody, however badly they are dealt;
+//! - [`make_tariff`]: random tariffs and switch's logs, and damaged ones;
 //! - [`by_hand`]: small jobs made by hand, with what their result says;
 //! - [`vectors`]: the stored jobs and files, with what is wanted of them;
 //! - [`tally`] and [`asked`]: how often each number of refusal was met, and each
@@ -46,6 +48,7 @@ pub mod damage_records;
 pub mod deal;
 pub mod examples;
 pub mod examples_parts;
+pub mod examples_priced;
 pub mod examples_refused;
 pub mod explain;
 pub mod file;
@@ -58,6 +61,7 @@ pub mod make_few_calls;
 pub mod make_months;
 pub mod make_most_turns;
 pub mod make_rounds;
+pub mod make_tariff;
 pub mod make_thin;
 pub mod make_turns;
 pub mod one_key;
@@ -72,6 +76,7 @@ pub mod seeds;
 pub mod shared;
 pub mod split;
 pub mod tally;
+pub mod tariff;
 pub mod tidy;
 pub mod turn;
 pub mod vectors;
@@ -80,4 +85,5 @@ pub use check::check;
 pub use deal::deal;
 pub use report::report;
 pub use run::{run, Outcome};
+pub use tariff::price;
 pub use tidy::tidy;

@@ -2,15 +2,16 @@
 //! it. They came with the documents and were not made here.
 //!
 //! One case is all files of one name, and the suffix says what each is. There
-//! are three kinds, each in folders of its own: jobs to be run, charge files to
-//! be tidied, and jobs to be dealt turns. All have `room`, what is lent, as text
-//! (without it, enough), and `out`, the whole output, or in its place `refused`,
-//! number and place as text.
+//! are four kinds, each in folders of its own: jobs to be run, charge files to
+//! be tidied, jobs to be dealt turns, and switch's logs to be priced. All have
+//! `room`, what is lent, as text (without it, enough), and `out`, the whole
+//! output, or in its place `refused`, number and place as text.
 //!
 //! - Of a job to be run: `job`, and `print`, what `chargelog` prints, which lends
 //!   enough itself.
 //! - Of a file to be tidied: `file`, and `depth`, the wanted depth as text.
 //! - Of a job to be dealt turns: `job`.
+//! - Of a log to be priced: `tariff` and `log`.
 
 use std::collections::{BTreeMap, BTreeSet};
 use std::ffi::OsStr;
@@ -24,9 +25,10 @@ use crate::run::Outcome;
 /// How many jobs there are: a test of no vectors would always pass.
 const JOBS: usize = 389;
 
-/// How many files to be tidied, and how many jobs to be dealt turns.
+/// How many files to be tidied, jobs to be dealt turns, and logs to be priced.
 const TO_BE_TIDIED: usize = 163;
 const TO_BE_DEALT: usize = 123;
+const TO_BE_PRICED: usize = 79;
 
 /// What is to be done with a case.
 #[derive(Clone, Copy, PartialEq, Eq)]
@@ -34,15 +36,17 @@ enum Call {
     Run,
     Tidy,
     Deal,
+    Price,
 }
 
 impl Call {
-    /// The folders of the files to be tidied and of the jobs to be dealt turns are
-    /// known; every other one has jobs to be run.
+    /// The folders of the files to be tidied, of the jobs to be dealt turns and of
+    /// the logs to be priced are known; every other one has jobs to be run.
     fn of(name: &str) -> Call {
         match name.split('/').next() {
             Some("12-tidy") => Call::Tidy,
             Some("14-deal") => Call::Deal,
+            Some("02-tariff") => Call::Price,
             _ => Call::Run,
         }
     }
@@ -53,6 +57,7 @@ impl Call {
             Call::Run => &["job", "room", "out", "refused", "print"],
             Call::Tidy => &["file", "depth", "room", "out", "refused"],
             Call::Deal => &["job", "room", "out", "refused"],
+            Call::Price => &["tariff", "log", "room", "out", "refused"],
         }
     }
 
@@ -114,6 +119,17 @@ pub struct ToBeDealt {
     pub wanted: Outcome,
 }
 
+/// One stored log of a switch, to be priced by its tariff.
+pub struct ToBePriced {
+    /// Its folder and name.
+    pub name: String,
+    pub tariff: Vec<u8>,
+    pub log: Vec<u8>,
+    /// What is lent: bytes of the output.
+    pub room: usize,
+    pub wanted: Outcome,
+}
+
 /// The folder of all vectors.
 pub fn folder() -> PathBuf {
     Path::new(env!("CARGO_MANIFEST_DIR")).join("vectors")
@@ -139,6 +155,14 @@ pub fn to_be_dealt() -> Vec<ToBeDealt> {
     let names = Call::Deal.names();
     let vectors: Vec<ToBeDealt> = names.map(|name| read_to_be_dealt(&name)).collect();
     assert!(vectors.len() >= TO_BE_DEALT, "only {}", vectors.len());
+    vectors
+}
+
+/// All stored logs to be priced, by name.
+pub fn to_be_priced() -> Vec<ToBePriced> {
+    let names = Call::Price.names();
+    let vectors: Vec<ToBePriced> = names.map(|name| read_to_be_priced(&name)).collect();
+    assert!(vectors.len() >= TO_BE_PRICED, "only {}", vectors.len());
     vectors
 }
 
@@ -177,7 +201,7 @@ pub fn read(name: &str) -> Vector {
         job: job(name),
         room: room(name),
         wanted: wanted(name),
-        print: bytes(name, "print").unwrap_or_else(|| panic!("no {name}.print")),
+        print: input(name, "print"),
     }
 }
 
@@ -192,7 +216,7 @@ fn read_to_be_dealt(name: &str) -> ToBeDealt {
 }
 
 fn job(name: &str) -> Vec<u8> {
-    bytes(name, "job").unwrap_or_else(|| panic!("no {name}.job"))
+    input(name, "job")
 }
 
 /// What a run or dealing is lent: three numbers.
@@ -205,16 +229,37 @@ fn room(name: &str) -> (usize, usize, usize) {
 
 /// The stored file to be tidied of one name, its folder before it.
 fn read_to_be_tidied(name: &str) -> ToBeTidied {
-    let one_number = |suffix| match numbers(name, suffix)?[..] {
-        [number] => Some(number),
-        _ => panic!("{name}.{suffix} has one number"),
-    };
+    let depth = one_number(name, "depth");
     ToBeTidied {
         name: name.to_string(),
-        file: bytes(name, "file").unwrap_or_else(|| panic!("no {name}.file")),
-        depth: one_number("depth").unwrap_or_else(|| panic!("no {name}.depth")) as u64,
-        room: one_number("room").unwrap_or(ENOUGH.0),
+        file: input(name, "file"),
+        depth: depth.unwrap_or_else(|| panic!("no {name}.depth")) as u64,
+        room: one_number(name, "room").unwrap_or(ENOUGH.0),
         wanted: wanted(name),
+    }
+}
+
+/// The stored log to be priced of one name, its folder before it.
+fn read_to_be_priced(name: &str) -> ToBePriced {
+    ToBePriced {
+        name: name.to_string(),
+        tariff: input(name, "tariff"),
+        log: input(name, "log"),
+        room: one_number(name, "room").unwrap_or(ENOUGH.0),
+        wanted: wanted(name),
+    }
+}
+
+/// The bytes of a file that every case of its kind has.
+fn input(name: &str, suffix: &str) -> Vec<u8> {
+    bytes(name, suffix).unwrap_or_else(|| panic!("no {name}.{suffix}"))
+}
+
+/// The number of a text that has one only.
+fn one_number(name: &str, suffix: &str) -> Option<usize> {
+    match numbers(name, suffix)?[..] {
+        [number] => Some(number),
+        _ => panic!("{name}.{suffix} has one number"),
     }
 }
 

@@ -6,15 +6,17 @@ use std::path::{Path, PathBuf};
 
 use chargefile_tests::answer::{Code, Line};
 use chargefile_tests::examples::{self, examples, Example};
+use chargefile_tests::examples_priced::{inn_log, inn_tariff, slips};
 use chargefile_tests::job::{Counts, Job, Kind, Operation};
 use chargefile_tests::key::{index, pseudo_key};
 use chargefile_tests::page::Record;
 use chargefile_tests::run::Run;
+use chargefile_tests::tariff::insert_bytes;
 use chargefile_tests::vectors;
-use chargefile_tests::{check, report, tidy, Outcome};
+use chargefile_tests::{check, price, report, tidy, Outcome};
 
 /// The files of the folder that no program writes.
-const BY_HAND: [&str; 10] = [
+const BY_HAND: [&str; 11] = [
     "README.md",
     "april.ops",
     "deal.c",
@@ -22,6 +24,7 @@ const BY_HAND: [&str; 10] = [
     "new_job.c",
     "next_month.c",
     "pages.c",
+    "price.c",
     "put_in_order.c",
     "tidied.ops",
     "tidy.c",
@@ -68,6 +71,8 @@ fn the_files_are_what_is_written() {
         assert!(read(&format!("{name}.txt")) == report(&bytes), "{name}.txt");
         wanted.extend([format!("{name}.job"), format!("{name}.txt")]);
     }
+    assert!(read("inn.tariff") == inn_tariff() && read("inn.log") == inn_log());
+    wanted.extend(["inn.tariff", "inn.log"].map(String::from));
     let files = fs::read_dir(folder()).expect("the folder of examples");
     let name = |file: fs::DirEntry| file.file_name().into_string().expect("a plain name");
     let there: BTreeSet<String> = files.map(|file| name(file.expect("a file"))).collect();
@@ -167,6 +172,19 @@ fn school_stops_early() {
     assert!(!run.rows[1].progress.finished(), "stored, but under way");
     assert_eq!(run.rows[3].first_turn, None, "the last search is not begun");
     assert!(run.contents().charge_file.is_none());
+}
+
+#[test]
+fn priced_has_the_charges_that_were_worked_by_hand() {
+    let result = slips()
+        .map(|slip| insert_bytes(slip.record.call, slip.charge))
+        .concat();
+    assert!(example("priced")
+        .to_bytes()
+        .windows(result.len())
+        .any(|bytes| bytes == result));
+    let outcome = price(&inn_tariff(), &inn_log(), result.len());
+    assert_eq!(outcome, Outcome::Done { result });
 }
 
 #[test]

@@ -7,9 +7,11 @@ use std::str::Chars;
 
 use chargefile_tests::damage::NUMBERS;
 use chargefile_tests::examples::example;
+use chargefile_tests::examples_priced::{bands, inn_log, inn_tariff, slips};
 use chargefile_tests::key::pseudo_key;
 use chargefile_tests::run::result_bytes;
-use chargefile_tests::{check, deal, report, tidy, Outcome};
+use chargefile_tests::tariff::{class, Logged};
+use chargefile_tests::{check, deal, price, report, tidy, Outcome};
 
 fn document() -> String {
     let path = Path::new(env!("CARGO_MANIFEST_DIR")).join("../docs/FORMAT.md");
@@ -85,20 +87,27 @@ fn the_worked_pseudo_key() {
     assert_eq!(key, u64::from(pseudo_key(6)));
 }
 
-/// Job E with the change that a line of the table describes.
-fn changed(words: &str) -> Vec<u8> {
-    let mut job = job_e();
+/// The bytes with the change that a line of a table describes.
+fn changed(mut whole: Vec<u8>, words: &str) -> Vec<u8> {
     if let Some(length) = words.strip_prefix("cut to ") {
         let length = length.strip_suffix(" bytes").expect("a length in bytes");
-        job.truncate(length.parse().expect("a length"));
-        return job;
+        whole.truncate(length.parse().expect("a length"));
+        return whole;
     }
     let words = words.strip_prefix("at ").expect("'cut to' or 'at'");
     let (place, bytes) = words.split_once(" write ").expect("what is written");
     let place: usize = place.parse().expect("a place");
     let bytes = hex(bytes.trim_matches('`'));
-    job[place..][..bytes.len()].copy_from_slice(&bytes);
-    job
+    whole[place..][..bytes.len()].copy_from_slice(&bytes);
+    whole
+}
+
+/// What a table of worked refusals says of a call.
+fn told(outcome: Outcome) -> String {
+    match outcome {
+        Outcome::Done { result } => format!("0 0, length {}", result.len()),
+        Outcome::Refused { number, place } => format!("{number} {place}, length 0"),
+    }
 }
 
 #[test]
@@ -119,10 +128,7 @@ fn the_worked_refusals_of_tidying() {
     for line in &rows[2..] {
         let cells: Vec<&str> = line.split('|').map(str::trim).collect();
         let depth = cells[1].parse().expect("a depth");
-        let told = match tidy(&file, depth, cells[2].parse().expect("a length")) {
-            Outcome::Done { result } => format!("0 0, length {}", result.len()),
-            Outcome::Refused { number, place } => format!("{number} {place}, length 0"),
-        };
+        let told = told(tidy(&file, depth, cells[2].parse().expect("a length")));
         assert_eq!(cells[3], told);
     }
     assert_eq!(rows.len(), 2 + 8, "all lines");
@@ -160,13 +166,75 @@ fn the_worked_refusals_of_dealing() {
             .split(", ")
             .map(|n| n.parse().expect("a length"))
             .collect();
-        let told = match deal(&job.expect("one of the two"), (lent[0], lent[1], lent[2])) {
-            Outcome::Done { result } => format!("0 0, length {}", result.len()),
-            Outcome::Refused { number, place } => format!("{number} {place}, length 0"),
-        };
+        let told = told(deal(
+            &job.expect("one of the two"),
+            (lent[0], lent[1], lent[2]),
+        ));
         assert_eq!(cells[3], told);
     }
     assert_eq!(rows.len(), 2 + 7, "all lines");
+}
+
+#[test]
+fn the_dumps_of_the_inn() {
+    let text = document();
+    let tariff = dump(&text, "### The tariff of an inn");
+    let log = dump(&text, "### The log of its switch");
+    assert_eq!((&tariff, &log), (&inn_tariff(), &inn_log()));
+    let result = dump(&text, "### The inserts");
+    assert_eq!(price(&tariff, &log, 60), Outcome::Done { result });
+}
+
+/// A line of the table of charges, up to the sum: call, band, hours since the month began, hour, class, seconds talked, those beyond the free ones, units.
+fn worked(record: &Logged) -> String {
+    let band = bands().into_iter().find(|band| band.code == record.band);
+    let (band, hours) = (band.expect("a band"), record.start / 3_600);
+    let class = format!("{:?}", class(hours % 24)).to_lowercase();
+    let (mut beyond, mut units) = (String::new(), String::new());
+    if record.talked > 0 {
+        let seconds = record.talked.saturating_sub(u32::from(band.free));
+        beyond = seconds.to_string();
+        units = seconds.div_ceil(u32::from(band.unit)).to_string();
+    }
+    let (call, code, hour, talked) = (record.call, record.band, hours % 24, record.talked);
+    format!("{call}|{code}|{hours}|{hour}|{class}|{talked}|{beyond}|{units}")
+}
+
+/// The charge stands at the end of each line of the table, behind the sum that it comes of.
+#[test]
+fn the_worked_charges_of_the_inn() {
+    let text = document();
+    let lines = section(&text, "### The log of its switch");
+    let rows: Vec<&&str> = lines.iter().filter(|line| line.starts_with('|')).collect();
+    let told: Vec<String> = rows[2..]
+        .iter()
+        .map(|line| {
+            let cells: Vec<&str> = line.split('|').map(str::trim).collect();
+            let charge = cells[9].rsplit(' ').next().expect("a charge");
+            format!("{} {charge}", cells[1..9].join("|"))
+        })
+        .collect();
+    let wanted = slips().map(|slip| format!("{} {}", worked(&slip.record), slip.charge));
+    assert_eq!(told, wanted);
+}
+
+#[test]
+fn the_worked_refusals_of_pricing() {
+    let text = document();
+    let lines = section(&text, "### Worked refusals of that tariff and log");
+    let rows: Vec<&&str> = lines.iter().filter(|line| line.starts_with('|')).collect();
+    for line in &rows[2..] {
+        let cells: Vec<&str> = line.split('|').map(str::trim).collect();
+        let (mut tariff, mut log) = (inn_tariff(), inn_log());
+        match cells[2] {
+            "tariff" => tariff = changed(tariff, cells[1]),
+            "log" => log = changed(log, cells[1]),
+            other => panic!("neither tariff nor log: {other}"),
+        }
+        let told = told(price(&tariff, &log, cells[3].parse().expect("a length")));
+        assert_eq!(cells[4], told, "{line}");
+    }
+    assert_eq!(rows.len(), 2 + 10, "all lines");
 }
 
 #[test]
@@ -177,7 +245,7 @@ fn the_worked_refusals() {
     for line in lines.iter().filter(|line| line.starts_with('|')).skip(2) {
         let cells: Vec<&str> = line.split('|').map(str::trim).collect();
         let printed = format!("{}\n", cells[2].trim_matches('`'));
-        let told = String::from_utf8(report(&changed(cells[1]))).expect("text");
+        let told = String::from_utf8(report(&changed(job_e(), cells[1]))).expect("text");
         assert_eq!(told, printed, "{line}");
         numbers.push(told.split(' ').nth(1).expect("a number").to_string());
     }
@@ -251,10 +319,11 @@ fn sums(line: &str) -> Vec<(usize, usize)> {
 #[test]
 fn the_worked_sums() {
     let text = document();
-    let lines = section(&text, "### Worked refusals, made of job E");
+    let mut lines = section(&text, "### Worked refusals, made of job E");
+    lines.extend(section(&text, "### The log of its switch"));
     let found: Vec<(usize, usize)> = lines.iter().flat_map(|line| sums(line)).collect();
     for (comes_to, told) in &found {
         assert_eq!(comes_to, told, "{found:?}");
     }
-    assert!(found.len() >= 20, "only {} sums", found.len());
+    assert!(found.len() >= 25, "only {} sums", found.len());
 }

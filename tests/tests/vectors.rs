@@ -1,13 +1,15 @@
-//! Every stored job comes to what is stored beside it, to the byte, and prints its text; every stored file is tidied, and every stored job without turns
-//! is dealt some, as is stored beside it. They came with the documents and were not made here: `marked-` are the marked jobs and `full-` the largest;
-//! others are named by their fault, by their refusal, or by a number only.
+//! Every stored job comes to what is stored beside it, to the byte, and prints its text; every stored file is tidied, every stored job without turns is
+//! dealt some, and every stored log is priced, as is stored beside it. They came with the documents and were not made here: `marked-` are the marked jobs
+//! and `full-` the largest; others are named by their fault, by their refusal, or by a number only.
 
 use std::collections::BTreeMap;
 
 use chargefile_tests::damage::NUMBERS;
 use chargefile_tests::tally::Tally;
-use chargefile_tests::vectors::{all, known_suffixes, suffixes, to_be_dealt, to_be_tidied};
-use chargefile_tests::{check, deal, report, run, tidy, Outcome};
+use chargefile_tests::vectors::{
+    all, known_suffixes, suffixes, to_be_dealt, to_be_priced, to_be_tidied,
+};
+use chargefile_tests::{check, deal, price, report, run, tidy, Outcome};
 
 /// No stored case is said to differ.
 fn none_differ(wrong: &[String]) {
@@ -75,6 +77,26 @@ fn every_vector_is_dealt_turns_or_refused() {
     none_differ(&wrong);
 }
 
+/// Each refusal of pricing is met, and so is none.
+#[test]
+fn every_vector_is_priced_or_refused() {
+    let (mut wrong, mut tally) = (Vec::new(), Tally::default());
+    for vector in to_be_priced() {
+        let outcome = price(&vector.tariff, &vector.log, vector.room);
+        tally.count(match outcome {
+            Outcome::Refused { number, .. } => number,
+            Outcome::Done { .. } => 0,
+        });
+        if outcome != vector.wanted {
+            let (name, wanted) = (vector.name, vector.wanted);
+            wrong.push(format!("{name}: {outcome:?}, wanted: {wanted:?}"));
+        }
+    }
+    none_differ(&wrong);
+    assert_eq!(tally.total(), 79);
+    tally.all_met([0, 1, 16, 9, 14, 15, 11], 5);
+}
+
 /// The job's own refusals come first, and are those of the check; after them no other is told than 21 and 11.
 #[test]
 fn a_job_to_be_dealt_turns_is_refused_as_a_job_first() {
@@ -126,6 +148,7 @@ fn the_vectors_are_all_there() {
     let wanted = [
         ("00-base", 177),
         ("01-page-faults", 62),
+        ("02-tariff", 79),
         ("03-page-byte", 23),
         ("04-key", 38),
         ("09-delete-at", 30),

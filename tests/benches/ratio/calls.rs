@@ -1,4 +1,4 @@
-//! The calls that are timed: check, run, tidying and dealing, of the library and of the rival.
+//! The calls that are timed: check, run, tidying, dealing and pricing, of the library and of the rival.
 
 use std::hint::black_box;
 use std::time::Instant;
@@ -25,10 +25,13 @@ pub enum Call {
     /// At this depth.
     Tidy(u64),
     Deal,
+    /// A tariff of so many bytes stands before the switch's log.
+    Price(usize),
 }
 
 /// What both are lent, enough for every job. Each has its own: neither finds in the cache what the other has written. Nothing is cleared between
-/// runs, since a run leaves memory and rows zero by itself, and so does dealing. A tidied file goes to the result buffer, and so does a job with its turns.
+/// runs, since a run leaves memory and rows zero by itself, and so does dealing. A tidied file goes to the result buffer, and so do a job with its turns and
+/// the inserts of a log; for a long log it is made longer.
 pub struct Lent {
     library: linked::Lent,
     result: Vec<u8>,
@@ -46,12 +49,13 @@ impl Lent {
         }
     }
 
-    /// Asserts that both accept the job, or tidy the charge file, or deal turns, and come to the same bytes.
+    /// Asserts that both accept the job, or tidy the charge file, or deal turns, or price the log, and come to the same bytes.
     pub fn agree(&mut self, call: Call, job: &[u8]) {
         match call {
             Call::Check | Call::Run => self.agree_run(job),
             Call::Tidy(depth) => self.agree_tidy(job, depth),
             Call::Deal => self.agree_deal(job),
+            Call::Price(tariff) => self.agree_price(job.split_at(tariff)),
         }
     }
 
@@ -77,6 +81,18 @@ impl Lent {
         assert_eq!(told.refusal, 0, "it is dealt turns");
         let length = told.length as usize;
         assert_eq!(self.rival_deal(job), Ok(length));
+        let same = self.result[..length] == self.library.result[..length];
+        assert!(same, "they differ");
+    }
+
+    fn agree_price(&mut self, (tariff, log): (&[u8], &[u8])) {
+        let room = OUTPUT.max(log.len());
+        self.library.result.resize(room, 0);
+        self.result.resize(room, 0);
+        let told = linked::price_only(tariff, log, &mut self.library.result);
+        assert_eq!(told.refusal, 0, "it is priced");
+        let length = told.length as usize;
+        assert_eq!(self.rival_price(tariff, log), Ok(length));
         let same = self.result[..length] == self.library.result[..length];
         assert!(same, "they differ");
     }
@@ -109,6 +125,14 @@ impl Lent {
             (Program::Rival, Call::Deal) => nanoseconds(times, || {
                 black_box(self.rival_deal(black_box(job))).ok();
             }),
+            (Program::Library, Call::Price(tariff)) => nanoseconds(times, || {
+                let (tariff, log) = black_box(job).split_at(tariff);
+                black_box(linked::price_only(tariff, log, &mut self.library.result));
+            }),
+            (Program::Rival, Call::Price(tariff)) => nanoseconds(times, || {
+                let (tariff, log) = black_box(job).split_at(tariff);
+                black_box(self.rival_price(tariff, log)).ok();
+            }),
         }
     }
 
@@ -126,6 +150,11 @@ impl Lent {
     #[inline(never)]
     fn rival_deal(&mut self, job: &[u8]) -> Result<usize, rival::Refusal> {
         rival::deal(job, &mut self.result, &mut self.rows, &mut self.memory)
+    }
+
+    #[inline(never)]
+    fn rival_price(&mut self, tariff: &[u8], log: &[u8]) -> Result<usize, rival::Refusal> {
+        rival::price(tariff, log, &mut self.result)
     }
 }
 

@@ -1,5 +1,5 @@
-//! The check and the run of a job, the dealing of its turns, and the tidying of a charge file, in safe Rust, tuned for time: what the library's time is
-//! held against. For measuring, not for use.
+//! The check and the run of a job, the dealing of its turns, the tidying of a charge file, and the pricing of a switch's log, in safe Rust, tuned for
+//! time: what the library's time is held against. For measuring, not for use.
 //!
 //! What makes it fast:
 //!
@@ -10,7 +10,8 @@
 //!   needs those of all records, works out two at a time (`key::of_record`);
 //! - a turn that waits, or that is of a finished operation, is one test (`tables::FREE`);
 //! - which pages are left after joining is read off counts, and each is written once (`tidy`);
-//! - for whom turns are dealt is kept in sets of bits, so that nobody who waits or has finished is passed over round after round (`deal`).
+//! - for whom turns are dealt is kept in sets of bits, so that nobody who waits or has finished is passed over round after round (`deal`);
+//! - a band is made ready once, so that no record of a log is looked for in the tariff or divided by a unit (`price`).
 //!
 //! A mask on an index or a shift, as in `count & 15`, changes nothing: it spares a test that the compiler would put in.
 #![forbid(unsafe_code)]
@@ -26,6 +27,7 @@ mod log;
 mod operation;
 mod page;
 mod pieces;
+mod price;
 mod result;
 mod run;
 mod search;
@@ -36,6 +38,7 @@ mod tidy;
 pub use check::check;
 pub use deal::deal;
 pub use operation::Row;
+pub use price::price;
 pub use run::run;
 pub use tidy::tidy;
 

@@ -1,5 +1,6 @@
 //! Writes the example jobs and what `chargelog` is to print of them: NAME.job
-//! and NAME.txt for each, into the folder that is named.
+//! and NAME.txt for each, into the folder that is named; and the tariff and the log
+//! of the inn.
 //!
 //! The texts come from this crate's own implementation. `.ci/examples` holds
 //! the proved program to them.
@@ -9,6 +10,7 @@ use std::process::ExitCode;
 use std::{env, fs, io};
 
 use chargefile_tests::examples::examples;
+use chargefile_tests::examples_priced::{inn_log, inn_tariff};
 use chargefile_tests::report;
 
 fn main() -> ExitCode {
@@ -34,5 +36,6 @@ fn write_all(folder: &Path) -> io::Result<()> {
         fs::write(folder.join(format!("{}.txt", example.name)), &text)?;
         println!("{}: {} bytes", example.name, job.len());
     }
-    Ok(())
+    fs::write(folder.join("inn.tariff"), inn_tariff())?;
+    fs::write(folder.join("inn.log"), inn_log())
 }

@@ -80,6 +80,14 @@ unsafe extern "C" {
         memory: *mut u8,
         memory_len: usize,
     ) -> CallOutcome;
+    fn chargefile_price(
+        tariff: *const u8,
+        tariff_len: usize,
+        log: *const u8,
+        log_len: usize,
+        out: *mut u8,
+        out_len: usize,
+    ) -> CallOutcome;
 }
 
 /// What a run or dealing is lent, filled with a pattern beforehand. The output of dealing goes where the result of a run does.
@@ -205,6 +213,19 @@ pub fn deal(job: &[u8], lent: &mut Lent) -> Told {
     told(outcome, &lent.result)
 }
 
+/// The pricing of a switch's log.
+pub fn price_only(tariff: &[u8], log: &[u8], out: &mut [u8]) -> CallOutcome {
+    let (t, l, o) = (tariff.as_ptr(), log.as_ptr(), out.as_mut_ptr());
+    // SAFETY: the contract of `chargefile_price` asks nothing of the three slices
+    unsafe { chargefile_price(t, tariff.len(), l, log.len(), o, out.len()) }
+}
+
+/// Prices a switch's log.
+pub fn price(tariff: &[u8], log: &[u8], out: &mut [u8]) -> Told {
+    let outcome = price_only(tariff, log, out);
+    told(outcome, out)
+}
+
 /// What the library must tell where the tests' own implementation comes to this.
 pub fn wanted(outcome: &Outcome) -> Told {
     match outcome {
@@ -302,6 +323,25 @@ pub fn tidies_to(file: &[u8], depth: u64, room: usize, behind: (usize, usize), w
         "the file's own bytes are written"
     );
     assert_eq!(told, self::wanted(wanted), "depth {depth}, room {room}");
+    if let Outcome::Done { result } = wanted {
+        out.bytes()[..result.len()].fill(0xA5);
+    }
+    assert!(
+        out.all.iter().all(|byte| *byte == 0xA5),
+        "a byte that is not the output's is written"
+    );
+}
+
+/// Prices a switch's log with an output of so many bytes lent. It comes to this; bytes of the output past the inserts keep their values, as do all of them
+/// after a refusal, those beside the output, and those of tariff and log. All three begin so many behind a round address.
+pub fn prices_to(tariff: &[u8], log: &[u8], room: usize, behind: [usize; 3], wanted: &Outcome) {
+    let mut given_tariff = black_box(Placed::of(tariff, behind[0]));
+    let mut given_log = black_box(Placed::of(log, behind[1]));
+    let mut out = Placed::filled(0xA5, room, behind[2]);
+    let told = price(given_tariff.bytes(), given_log.bytes(), out.bytes());
+    let kept = black_box(given_tariff).bytes() == tariff && black_box(given_log).bytes() == log;
+    assert!(kept, "bytes of the tariff or of the log are written");
+    assert!(told == self::wanted(wanted), "room {room}: {told:?}");
     if let Outcome::Done { result } = wanted {
         out.bytes()[..result.len()].fill(0xA5);
     }
