@@ -42,14 +42,6 @@ static inline int write_out(const char *program, const uint8_t *bytes, size_t le
     return flush_out(program);
 }
 
-/* Numbers are little-endian. */
-static inline void put_number(uint8_t *at, unsigned size, uint32_t number)
-{
-    for (unsigned i = 0; i < size; i++) {
-        at[i] = (uint8_t)(number >> 8 * i);
-    }
-}
-
 /* False where the word is no number of 32 bits, or there is no word. */
 static inline bool number_of(const char *word, uint32_t *number)
 {
@@ -70,8 +62,10 @@ static inline bool was_accepted(const char *program, chargefile_outcome told)
         [CHARGEFILE_REFUSED_OWNER] = "owner",         [CHARGEFILE_REFUSED_RECORD] = "record",
         [CHARGEFILE_REFUSED_OPERATION] = "operation", [CHARGEFILE_REFUSED_TURN] = "turn",
         [CHARGEFILE_REFUSED_OUTPUT] = "output",       [CHARGEFILE_REFUSED_PATTERN] = "pattern",
-        [CHARGEFILE_REFUSED_ZERO] = "zero",           [CHARGEFILE_REFUSED_PRESENT] = "present",
-        [CHARGEFILE_REFUSED_DEPTH] = "depth",         [CHARGEFILE_REFUSED_DEALT] = "dealt",
+        [CHARGEFILE_REFUSED_ZERO] = "zero",           [CHARGEFILE_REFUSED_BAND] = "band",
+        [CHARGEFILE_REFUSED_CHARGE] = "charge",       [CHARGEFILE_REFUSED_TARIFF] = "tariff",
+        [CHARGEFILE_REFUSED_PRESENT] = "present",     [CHARGEFILE_REFUSED_DEPTH] = "depth",
+        [CHARGEFILE_REFUSED_DEALT] = "dealt",
     };
     if (told.refusal == CHARGEFILE_ACCEPTED) {
         return true;

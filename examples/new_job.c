@@ -29,10 +29,16 @@ static uint8_t job[JOB_ROOM];
 static size_t length;
 static uint32_t operations, turns;
 
-static void append(unsigned size, uint32_t number)
+static void append_two(uint32_t number)
 {
-    put_number(job + length, size, number);
-    length += size;
+    chargefile_put_two(job + length, number);
+    length += 2;
+}
+
+static void append_four(uint32_t number)
+{
+    chargefile_put_four(job + length, number);
+    length += 4;
 }
 
 /* This and the next two give NULL, or what is wrong with the line. */
@@ -55,9 +61,9 @@ static const char *add_operation(unsigned kind)
     if (operations == CHARGEFILE_OPERATIONS_MAX) {
         return "too many operations";
     }
-    append(2, kind); /* and the zero byte */
-    append(4, call);
-    append(4, charge);
+    append_two(kind); /* and the zero byte */
+    append_four(call);
+    append_four(charge);
     operations++;
     return NULL;
 }
@@ -72,7 +78,7 @@ static const char *add_turns(void)
         if (turns == CHARGEFILE_TURNS_MAX) {
             return "too many turns";
         }
-        append(2, operation);
+        append_two(operation);
         turns++;
     }
     return NULL;
@@ -126,10 +132,10 @@ static bool read_charge_file(const char *path)
 static void change_header(void)
 {
     uint32_t begin = chargefile_four(job + CHARGEFILE_AT_OPERATIONS_OFFSET);
-    put_number(job + CHARGEFILE_AT_OPERATIONS, 2, operations);
-    put_number(job + CHARGEFILE_AT_TURNS, 2, turns);
-    put_number(job + CHARGEFILE_AT_TURNS_OFFSET, 4, begin + CHARGEFILE_OPERATION_SIZE * operations);
-    put_number(job + CHARGEFILE_AT_TOTAL, 4, (uint32_t)length);
+    chargefile_put_two(job + CHARGEFILE_AT_OPERATIONS, operations);
+    chargefile_put_two(job + CHARGEFILE_AT_TURNS, turns);
+    chargefile_put_four(job + CHARGEFILE_AT_TURNS_OFFSET, begin + CHARGEFILE_OPERATION_SIZE * operations);
+    chargefile_put_four(job + CHARGEFILE_AT_TOTAL, (uint32_t)length);
 }
 
 int main(int count, char **words)
