@@ -5,7 +5,7 @@ use chargefile_tests::job::Job;
 use crate::calls::{Call, Lent, Program};
 
 /// How often library and rival take turns.
-const ROUNDS: usize = 1_000;
+const ROUNDS: usize = 500;
 /// How many measurements in a row for one job, so that neither always begins where the other has just filled the cache.
 const IN_A_ROW: usize = 8;
 /// About how long a measurement takes at least, so that the clock's own steps do not count. It is kept short: then some are not disturbed.

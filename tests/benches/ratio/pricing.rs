@@ -16,7 +16,7 @@ pub fn print() {
     let month = given(32, 4_096);
     let times = best(Call::Price(32 * BAND_LENGTH), &month);
     table::line("4,096 records of 32 bands", times, 1);
-    // too long to be measured a thousand times
+    // too long to be measured so often
     let long = [given(32, 100_000)];
     let times = rotation(Call::Price(32 * BAND_LENGTH), &long);
     table::line("100,000 records of 32 bands", times, 1);
