@@ -17,6 +17,28 @@ pub enum Outcome {
     Refused { number: u32, place: u32 },
 }
 
+impl Outcome {
+    /// Of a call that is lent a buffer of so many bytes, and answers with a length
+    /// or with number and place: a refusal has written to none of them, and those
+    /// past the length keep their values.
+    pub fn written(
+        room: usize,
+        call: impl FnOnce(&mut [u8]) -> Result<usize, (u32, usize)>,
+    ) -> Outcome {
+        let mut result = vec![0xA5; room];
+        let told = call(&mut result);
+        let kept = result.split_off(told.unwrap_or(0));
+        assert!(kept.iter().all(|byte| *byte == 0xA5), "bytes past the end");
+        match told {
+            Ok(_) => Outcome::Done { result },
+            Err((number, place)) => Outcome::Refused {
+                number,
+                place: place as u32,
+            },
+        }
+    }
+}
+
 /// Checks a job and runs it, given the lengths of what is lent: the result
 /// buffer in bytes, the table in rows, the working memory in bytes.
 pub fn run(job: &[u8], result_len: usize, rows_len: usize, memory_len: usize) -> Outcome {

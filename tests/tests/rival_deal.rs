@@ -33,25 +33,15 @@ fn other_row() -> Row {
 /// What the rival's dealing comes to with so much lent: a refusal has written nothing, and else rows and memory are zero and the bytes past the output keep
 /// their values. The tests' own comes to the same.
 fn agree(job: &[u8], room: Room) -> Outcome {
-    let mut out = vec![0xA5; room.0];
     let mut rows = vec![other_row(); room.1];
     let mut memory = vec![0xC3; room.2];
-    let told = rival::deal(job, &mut out, &mut rows, &mut memory);
-    let kept = out.split_off(told.unwrap_or(0));
-    assert!(kept.iter().all(|byte| *byte == 0xA5), "bytes past the end");
+    let told = Outcome::written(room.0, |out| rival::deal(job, out, &mut rows, &mut memory));
     let (row, byte) = match told {
-        Ok(_) => (Row::default(), 0),
-        Err(_) => (other_row(), 0xC3),
+        Outcome::Done { .. } => (Row::default(), 0),
+        Outcome::Refused { .. } => (other_row(), 0xC3),
     };
     assert!(rows.iter().all(|left| *left == row), "rows afterwards");
     assert!(memory.iter().all(|left| *left == byte), "memory afterwards");
-    let told = match told {
-        Ok(_) => Outcome::Done { result: out },
-        Err((number, place)) => Outcome::Refused {
-            number,
-            place: place as u32,
-        },
-    };
     assert!(told == deal(job, room), "they differ");
     told
 }

@@ -20,20 +20,9 @@ const ENOUGH: usize = 20_000;
 
 const FILES: u64 = 2_000;
 
-/// What the rival's tidying comes to in a buffer of so many bytes: of these a refusal has written none, and those past the length keep their values.
-/// The tests' own comes to the same.
+/// What the rival's tidying comes to in a buffer of so many bytes. The tests' own comes to the same.
 fn tidied(file: &[u8], depth: u64, room: usize) -> Outcome {
-    let mut out = vec![0xA5; room];
-    let told = rival::tidy(file, depth, &mut out);
-    let kept = out.split_off(told.unwrap_or(0));
-    assert!(kept.iter().all(|byte| *byte == 0xA5), "bytes past the end");
-    let told = match told {
-        Ok(_) => Outcome::Done { result: out },
-        Err((number, place)) => Outcome::Refused {
-            number,
-            place: place as u32,
-        },
-    };
+    let told = Outcome::written(room, |out| rival::tidy(file, depth, out));
     assert_eq!(told, tidy(file, depth, room));
     told
 }

@@ -13,20 +13,9 @@ use crate::priced::{cases, of_every_unit, price_every_hour};
 
 const LOGS: u64 = 1_500;
 
-/// What the rival's pricing comes to in a buffer of so many bytes: of these a refusal has written none, and those past the length keep their values. The
-/// tests' own comes to the same.
+/// What the rival's pricing comes to in a buffer of so many bytes. The tests' own comes to the same.
 fn agree(tariff: &[u8], log: &[u8], room: usize) -> Outcome {
-    let mut out = vec![0xA5; room];
-    let told = rival::price(tariff, log, &mut out);
-    let kept = out.split_off(told.unwrap_or(0));
-    assert!(kept.iter().all(|byte| *byte == 0xA5), "bytes past the end");
-    let told = match told {
-        Ok(_) => Outcome::Done { result: out },
-        Err((number, place)) => Outcome::Refused {
-            number,
-            place: place as u32,
-        },
-    };
+    let told = Outcome::written(room, |out| rival::price(tariff, log, out));
     assert!(told == price(tariff, log, room), "they differ");
     told
 }
