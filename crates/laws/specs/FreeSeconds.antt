@@ -1,9 +1,10 @@
 -- The free seconds against the fee (document 02, point 6). The rule before it stands here, and nowhere else, for what is said of the change: which
 -- charges differ, what each becomes, and that a call one second longer pays as before; and that a call of the library comes to what it came to.
+use Rattle.std.proofs.Math.Logic.Iff
 use Rattle.std.specs.Prelude.{ℕ, zero, suc, ◌+◌, ◌-◌, ◌*◌, ◌/◌, ◌<◌, ◌≤◌, ◌≡◌, refl, ◌↔◌, ◌⊎◌, List, map, Bool, not, length, ltb, leb, eqb}
 use Rattle.std.proofs.Math.Path.{sym, ap}
 use Rattle.std.proofs.Common.{subst, ◌∙◌, ⊎_elim, mul-one, add-zero}
-use Rattle.std.proofs.Math.Logic.{Iff·rfl, inl, inr}
+use Rattle.std.proofs.Math.Logic.{inl, inr}
 use Rattle.std.proofs.Math.Bool.{true, false}
 use Rattle.std.proofs.Math.Option.{Option, none, some, none-ne-some, some-injective}
 use native.Mathlib.Omega.{arith}
@@ -140,7 +141,7 @@ taken false a b e = absurd (none-ne-some _ e)
 
 fee-fits : (bands : List Band) (code : ℕ) (b : Band) → Each FeeFits bands → band_for bands code ≡ some b → FeeFits b
 unfolding band_for
-fee-fits bands code b h e = first_both _ _ (λ k x. Iff·rfl) FeeFits (λ u v. FeeFits u) (λ k x u v l f g. subst FeeFits (taken _ x u f) l) 0 bands h b b e e
+fee-fits bands code b h e = first_both _ _ (λ k x. Iff.rfl) FeeFits (λ u v. FeeFits u) (λ k x u v l f g. subst FeeFits (taken _ x u f) l) 0 bands h b b e e
 
 -- 15 is told of the same records
 too_dear_same : (bands : List Band) (r : Logged) → Each FeeFits bands → ltb max_charge (earlier_of bands r) ≡ ltb max_charge (charge_of bands r)

@@ -1,7 +1,7 @@
 -- Bands and log records: which band a code has, and what 16 and the records' refusals rule out where they are not told.
+use Rattle.std.proofs.Math.Logic.Iff
 use Rattle.std.specs.Prelude.{ℕ, suc, ◌*◌, ◌≤◌, ◌<◌, ◌≡◌, refl, ◌↔◌, List, Bool, true, false, ◌||◌, get_or, take}
 use Rattle.std.proofs.Common.{sym, true≢false, arith, length-take-le, take-suc, get_or-take}
-use Rattle.std.proofs.Math.Logic.{Iff·rfl}
 use Rattle.std.proofs.Math.Option.{none, some, none-ne-some}
 use Rattle.std.proofs.Math.ListN.{length}
 use Rattle.std.proofs.Math.Dec.{eqb}
@@ -23,7 +23,7 @@ if_none false x = (λ e. refl, λ e. refl)
 -- no band has a code exactly if none is taken for it
 pub coded_band : (bands : List Band) (code : ℕ) → is_coded bands code ≡ false ↔ band_for bands code ≡ none
 unfolding is_coded band_for
-coded_band bands code = simp (any_none (λ i (b : Band). eqb b.code code) bands no_band, first-none (λ i (b : Band). if (eqb b.code code) (some b) none) bands no_band, if_none) Iff·rfl
+coded_band bands code = simp (any_none (λ i (b : Band). eqb b.code code) bands no_band, first-none (λ i (b : Band). if (eqb b.code code) (some b) none) bands no_band, if_none) Iff.rfl
 
 -- one band more: for an index that is filled band by band
 module _ (bands : List Band) (i code : ℕ) (l : i < length bands) where

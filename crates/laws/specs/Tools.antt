@@ -112,6 +112,7 @@ module _ {A : Type 0} where
 
   pub has_one : {x y : A} → Has x (y ∷ []) → x ≡ y
   has_one here = refl
+  has_one {y = y} (there h) = elim h [ ]
 
   pub has_first : (xs : List A) (d : A) → 1 ≤ length xs → Has (get_or xs 0 d) xs
   has_first [] d l = absurd (omega arith)

@@ -1,7 +1,8 @@
 -- The pages in use, 1 to U, by number: what a walk over them says, said of page x.
+use Rattle.std.proofs.Math.Logic.Dec
 use Rattle.std.specs.Prelude.{ℕ, zero, suc, ◌<◌, ◌≤◌, ◌≡◌, ◌↔◌, Bool, false, length, get_or, drop}
 use Rattle.std.proofs.Common.{◌∙◌, arith, one-add, get_or-drop}
-use Rattle.std.proofs.Math.Logic.{Dec·and, by_cases}
+use Rattle.std.proofs.Math.Logic.{by_cases}
 use Rattle.std.proofs.Math.Option.{Option, none}
 use Rattle.std.proofs.Math.Decide.{dec_le}
 use Rattle.std.proofs.Math.ListN.{length-drop}
@@ -18,7 +19,7 @@ page_behind f k = get_or-drop 1 f.table k zero_page ∙ rw one-add
 
 -- what every page is, if those in use are so and a page of zeros is
 pub any_page : (f : File) (P : Page → Type 0) → FileOk f → P zero_page → ((x : ℕ) → PageNo f x → P (page_at f x)) → (x : ℕ) → P (page_at f x)
-any_page f P ok zeroed used x = by_cases (Dec·and (dec_le 1 x) (dec_le x f.used)) (used x) (λ n. rw (ok.unused x n) zeroed)
+any_page f P ok zeroed used x = by_cases (Dec.and (dec_le 1 x) (dec_le x f.used)) (used x) (λ n. rw (ok.unused x n) zeroed)
 
 module _ (f : File) (within : f.used ≤ f.limit) (size : length f.table ≡ suc f.limit) where
   pub length_in_use : length (pages_in_use f) ≡ f.used

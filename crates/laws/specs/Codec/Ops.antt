@@ -1,6 +1,6 @@
 -- Rows 9 and 10, said of the bytes of each operation and each turn.
+use Rattle.std.proofs.Math.Logic.Iff
 use Rattle.std.specs.Prelude.{ℕ, ◌<◌, ◌≤◌, ◌≡◌, ◌↔◌, List}
-use Rattle.std.proofs.Math.Logic.{Iff·rfl}
 use Rattle.std.proofs.Math.Option.{none}
 use Rattle.spec.specs.Basics.{first_of, Each}
 use Rattle.spec.specs.Bytes.{byte, long}
@@ -27,4 +27,4 @@ ops_said h os = first_each (op_fault h) OpFine (op-fine h) os
 -- row 10
 pub turns_said : (h : Header) (us : List (List ℕ)) → first_of (turn_fault h) 0 us ≡ none ↔ Each (λ u. number_of u < h.ops) us
 unfolding turn_fault
-turns_said h us = first_each (turn_fault h) (λ u. number_of u < h.ops) (λ k u. simp failed Iff·rfl) us
+turns_said h us = first_each (turn_fault h) (λ u. number_of u < h.ops) (λ k u. simp failed Iff.rfl) us

@@ -1,8 +1,8 @@
 -- Rows 5 and 7 as properties of a file. Row 5: every entry names a page in use. Row 7, with no word of tests or walks: of the pages in use, the
 -- one whose pattern begins an entry is the one that the entry names, and no other.
+use Rattle.std.proofs.Math.Logic.Iff
 use Rattle.std.specs.Prelude.{ℕ, ◌^◌, ◌<◌, ◌≡◌, refl, ◌↔◌, false, length}
 use Rattle.std.proofs.Common.{sym}
-use Rattle.std.proofs.Math.Logic.{Iff·rfl}
 use Rattle.std.proofs.Math.Bool.{true}
 use Rattle.std.proofs.Math.Option.{none}
 use Rattle.spec.specs.Basics.{first_of}
@@ -18,7 +18,7 @@ use Rattle.laws.specs.Codec.InUse.{any_in_use}
 pub entries_said
     : (f : File) → first_of (entry_fault f.used) 0 f.directory ≡ none ↔ ((j : ℕ) → j < length f.directory → PageNo f (entry_at f j))
 unfolding entry_fault entry_at
-entries_said f = simp (first-none (entry_fault f.used) f.directory 0, failed) Iff·rfl
+entries_said f = simp (first-none (entry_fault f.used) f.directory 0, failed) Iff.rfl
 
 -- row 7: of the pages in use, the pattern of page x begins entry e exactly if entry e names page x
 abbrev pub Owners : File → Type 0
@@ -31,7 +31,7 @@ module _ (f : File) (fit : Fit f) where
       : (j x : ℕ) → bad_owner f j x ≡ false ↔ (owns f.g j (page_at f x) ≡ true) × ((y : ℕ) → PageNo f y → owns f.g j (page_at f y) ≡ true → y ≡ x)
   unfolding bad_owner owns_too
   owner-fine j x =
-      simp (only_no, failed, any_in_use f fit.within fit.pages) Iff·rfl
+      simp (only_no, failed, any_in_use f fit.within fit.pages) Iff.rfl
 
   pub owners_said : first_of (owner_fault f) 0 f.directory ≡ none ↔ Owners f
   unfolding owner_fault owns entry_at

@@ -1,6 +1,7 @@
 -- Rows 12, 6 and 13, said of the bytes of each page; and what is read of a page that they do not refuse.
+use Rattle.std.proofs.Math.Logic.Iff
 use Rattle.std.specs.Prelude.{ℕ, suc, ◌+◌, ◌*◌, ◌^◌, ◌<◌, ◌≤◌, ◌≡◌, ◌↔◌, List, [], true, length, get_or, drop}
-use Rattle.std.proofs.Math.Logic.{Iff·rfl, by_cases}
+use Rattle.std.proofs.Math.Logic.{by_cases}
 use Rattle.std.proofs.Math.Option.{none}
 use Rattle.std.proofs.Common.{arith, lt-ltb, le-ltb}
 use Rattle.std.proofs.Math.Decide.{dec_le}
@@ -56,7 +57,7 @@ page-fine h x p = by_cases (dec_le x h.used) (page-used h x p) (λ n. page-unuse
 -- rows 12, 6 and 13
 pub pages_said
     : (h : Header) (ps : List (List ℕ)) → first_of (page_fault h) 1 ps ≡ none ↔ ((k : ℕ) → k < length ps → PageFine h (suc k) (get_or ps k []))
-pages_said h ps = simp (first_from_1, first-none (λ x. page_fault h (suc x)) ps [], page-fine) Iff·rfl
+pages_said h ps = simp (first_from_1, first-none (λ x. page_fault h (suc x)) ps [], page-fine) Iff.rfl
 
 -- the page that is read: as many records as its bytes count
 pub records-count : (p : List ℕ) → length (page_of p).records ≡ byte p 1

@@ -39,11 +39,11 @@ number_there p b = word_in 2 p b 0 (omega arith) ∙ ap (word b) (add-zero p)
 
 pub entry_there : (b : List ℕ) (j : ℕ) → j < 2 ^ (header_of b).g → entry_at (file_of b) j ≡ word b (entry_place j)
 unfolding entry_at file_of number_of word byte
-entry_there b j l = ListN.get_d_map number_of (entry_parts (header_of b) b) j [] ∙ ap number_of (entry_part (header_of b) b j l) ∙ number_there (entry_place j) b
+entry_there b j l = ListN.get_or-map number_of (entry_parts (header_of b) b) j [] ∙ ap number_of (entry_part (header_of b) b j l) ∙ number_there (entry_place j) b
 
 pub turn_there : (b : List ℕ) (t : ℕ) → t < (header_of b).turns → get_or (job_of b).turns t 0 ≡ word b (turn_place (header_of b) t)
 unfolding job_of number_of word byte
-turn_there b t l = ListN.get_d_map number_of (turn_parts (header_of b) b) t [] ∙ ap number_of (turn_part (header_of b) b t l) ∙ number_there (turn_place (header_of b) t) b
+turn_there b t l = ListN.get_or-map number_of (turn_parts (header_of b) b) t [] ∙ ap number_of (turn_part (header_of b) b t l) ∙ number_there (turn_place (header_of b) t) b
 
 -- record i of a page
 pub record_part : (s : List ℕ) (i : ℕ) (d : Rec) → i < byte s 1 → get_or (page_of s).records i d ≡ record_of (take record_size (drop (4 + record_size * i) s))

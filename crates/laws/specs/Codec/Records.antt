@@ -1,7 +1,7 @@
 -- Row 8 as a property of a file: in every page in use, each call's pseudo key begins with the page's pattern, and calls rise.
 -- The row compares a call with the one before it, `CallsRise` with all those behind it.
+use Rattle.std.proofs.Math.Logic.Iff
 use Rattle.std.specs.Prelude.{ℕ, zero, suc, ◌-◌, ◌<◌, ◌≤◌, ◌≡◌, ◌↔◌, List, [], ◌∷◌, length, get_or}
-use Rattle.std.proofs.Math.Logic.{Iff·rfl}
 use Rattle.std.proofs.Math.Option.{none}
 use Rattle.std.proofs.Common.{arith}
 use Rattle.spec.specs.declared.Rec.{Rec}
@@ -65,4 +65,4 @@ pub records_said
     → first_of (record_fault_in h) 1 (pages_in_use f) ≡ none ↔ ((x : ℕ) → PageNo f x → RecordsOk (page_at f x))
 unfolding record_fault_in
 records_said h f within size =
-    simp (first_in_use f within size, page-records) Iff·rfl
+    simp (first_in_use f within size, page-records) Iff.rfl

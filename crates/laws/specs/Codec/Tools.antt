@@ -1,8 +1,8 @@
 -- What it says that a test does not hold, and the members of a list: facts about Bool, Option and List that the laws of the bytes share.
 -- Each fact about a test is an `↔`, so that `simp failed` says what it means that a row of the refusal table does not hold, either way round.
+use Rattle.std.proofs.Math.Logic.Iff
 use Rattle.std.specs.Prelude.{ℕ, zero, suc, ◌<◌, ◌≤◌, ◌≡◌, refl, ◌↔◌, List, [], ◌∷◌, ◌++◌, map, Bool, true, false, not, ◌&&◌, ◌||◌, length, get_or, ltb, leb, eqb}
 use Rattle.std.proofs.Common.{sym, true≢false, arith, ltb-true, ltb-false, leb-false, eqb-true, lt-ltb, le-ltb, eq-eqb, ne_eqb}
-use Rattle.std.proofs.Math.Logic.{Iff·rfl}
 use Rattle.std.proofs.lemmas.Bool.{false≢true, eqb-false, not-true, not-false, lt-leb}
 use Rattle.std.proofs.Math.Option.{Option, none, some, none-ne-some}
 use Rattle.spec.specs.Basics.{when, or_else, among, Each, end, next}
@@ -47,7 +47,7 @@ eqb_no a b = (eqb-false a b, ne_eqb a b)
 
 pub outside_no : (least most n : ℕ) → outside least most n ≡ false ↔ (least ≤ n) × (n ≤ most)
 unfolding outside
-outside_no least most n = simp (or_no, ltb_no) Iff·rfl
+outside_no least most n = simp (or_no, ltb_no) Iff.rfl
 
 -- places that are not there
 pub when-none : (t : Bool) (p : ℕ) → when t p ≡ none ↔ t ≡ false
@@ -135,4 +135,4 @@ module _ {A : Type 0} where
 
 pub each_map : {A B : Type 0} {P : B → Type 0} (f : A → B) (l : List A) → Each P (map f l) ↔ Each (λ x. P (f x)) l
 each_map {P = P} f [] = (λ e. end, λ e. end)
-each_map {P = P} f (x ∷ l) = simp (each-cons, each_map {P = P} f l) Iff·rfl
+each_map {P = P} f (x ∷ l) = simp (each-cons, each_map {P = P} f l) Iff.rfl

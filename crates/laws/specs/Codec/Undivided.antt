@@ -1,8 +1,8 @@
 -- Document 01's table has one row for all faults of a page, told at the page; document 02 divides it into 12, 6 and 13. Between the two: no fault is
 -- added or lost, the faults that other rows tell stay as they are, and where the one row tells a page, one of the three tells a place in that page.
+use Rattle.std.proofs.Math.Logic.Iff
 use Rattle.std.specs.Prelude.{ℕ, ◌+◌, ◌*◌, ◌^◌, ◌<◌, ◌≤◌, ◌≡◌, refl, ◌↔◌, List, [], ◌∷◌, ◌++◌, Bool, true, false, not, ◌&&◌, ◌||◌, ltb, leb, length, take, drop}
 use Rattle.std.proofs.Common.{sym, ◌∙◌, inl, inr, arith, length-drop}
-use Rattle.std.proofs.Math.Logic.{Iff·rfl}
 use Rattle.std.proofs.Math.Option.{Option, none, some, none-ne-some}
 use Rattle.spec.specs.Basics.{when, or_else, among, first_of}
 use Rattle.spec.specs.Bytes.{byte, word}
@@ -39,7 +39,7 @@ unfolding bad_page
 bad_fine h x p = simp failed (λ e. search, λ r. search)
 
 page_same : (h : Header) (x : ℕ) (p : List ℕ) → bad_place h x p ≡ none ↔ page_fault h x p ≡ none
-page_same h x p = simp (failed, bad_fine, page-fine) Iff·rfl
+page_same h x p = simp (failed, bad_fine, page-fine) Iff.rfl
 
 pub pages_same : (b : List ℕ) → row 6 undivided b ≡ none ↔ wrong_page b ≡ none
 unfolding undivided wrong_page
@@ -65,7 +65,7 @@ module _ (b : List ℕ) where
   three = rows_split (take 5 rows) wrong_page (drop 6 rows) b
 
 pub accepted_same : (b : List ℕ) → first_row one_row b ≡ none ↔ job_fault b ≡ none
-accepted_same b = rw (one b, three b) (simp (or_else_none, pages_same b) Iff·rfl)
+accepted_same b = rw (one b, three b) (simp (or_else_none, pages_same b) Iff.rfl)
 
 -- ---- THE OTHER ROWS STAY
 

@@ -1,10 +1,10 @@
 -- A walk over a list, member by member: what `first_of` and `any_of` say by places. The laws are about walks that count from 0, but for those about two
 -- walks at once; one that counts from 1 is such a walk too (`first_from_1`, `any_from_1`).
 use Prim.Native.Nat.{ℕ, zero, suc, ◌+◌, ◌<◌}
+use Rattle.std.proofs.Math.Logic.Iff
 use Rattle.std.specs.Prelude.{◌≡◌, ◌↔◌, Bool, false, ◌||◌, length, get_or}
 use Rattle.std.proofs.Math.Path.{refl, ap}
 use Rattle.std.proofs.Common.{sym, ◌∙◌, arith}
-use Rattle.std.proofs.Math.Logic.{Iff·rfl}
 use mathlib.Core.List.{List, [], ◌∷◌, ◌++◌}
 use Rattle.std.proofs.Math.Bool.{or-false, or_assoc}
 use Rattle.std.proofs.Math.Option.{Option, none, some, none-ne-some}
@@ -90,14 +90,14 @@ module _ {A B : Type 0} where
   -- nothing is found exactly if every member passes a test that does not ask for its number
   pub first_each : (f : ℕ → A → Option B) (P : A → Type 0) → ((k : ℕ) (x : A) → f k x ≡ none ↔ P x) → (xs : List A) → first_of f 0 xs ≡ none ↔ Each P xs
   first_each f P h [] = (λ e. end, λ h. first_nil f)
-  first_each f P h (x ∷ xs) = simp (first-cons, or_else_none, h, first_each (λ k. f (suc k)) P (λ k. h (suc k)) xs, each-cons) Iff·rfl
+  first_each f P h (x ∷ xs) = simp (first-cons, or_else_none, h, first_each (λ k. f (suc k)) P (λ k. h (suc k)) xs, each-cons) Iff.rfl
 
 -- two walks over one list that stop at the same member: what they tell of it, each, goes together as R says
 module _ {A B C : Type 0} (f : ℕ → A → Option B) (g : ℕ → A → Option C) (same : (k : ℕ) (x : A) → f k x ≡ none ↔ g k x ≡ none) where
   pub first-same : (i : ℕ) (xs : List A) → first_of f i xs ≡ none ↔ first_of g i xs ≡ none
   unfolding first_of
   first-same i [] = (λ e. refl, λ e. refl)
-  first-same i (x ∷ xs) = simp (or_else_none, same, first-same (suc i) xs) Iff·rfl
+  first-same i (x ∷ xs) = simp (or_else_none, same, first-same (suc i) xs) Iff.rfl
 
   module _ (P : A → Type 0) (R : B → C → Type 0) (told : (k : ℕ) (x : A) (u : B) (v : C) → P x → f k x ≡ some u → g k x ≡ some v → R u v) where
     pub first_both : (i : ℕ) (xs : List A) → Each P xs → (u : B) (v : C) → first_of f i xs ≡ some u → first_of g i xs ≡ some v → R u v

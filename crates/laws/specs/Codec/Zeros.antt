@@ -1,7 +1,8 @@
 -- Bytes that should be zero: what it means that row 13 tells no place, and what place it tells.
+use Rattle.std.proofs.Math.Logic.Iff
 use Rattle.std.specs.Prelude.{ℕ, zero, suc, ◌+◌, ◌-◌, ◌<◌, ◌≤◌, ◌≡◌, refl, ◌↔◌, List, [], ◌∷◌, Bool, true, false, not, ◌&&◌, eqb, length, drop, replicate}
 use Rattle.std.proofs.Common.{ap, ◌∙◌, arith}
-use Rattle.std.proofs.Math.Logic.{Iff·rfl, by_cases}
+use Rattle.std.proofs.Math.Logic.{by_cases}
 use Rattle.std.proofs.Math.Bool.{and-eq-true_iff}
 use Rattle.std.proofs.Math.Option.{Option, none, some, none-ne-some}
 use Rattle.std.proofs.Math.Decide.{ℕ_discrete, dec_lt}
@@ -19,7 +20,7 @@ zeros (x ∷ xs) = eqb x 0 && zeros xs
 pub not-zero-none : (a : ℕ) (s : List ℕ) → not_zero a s ≡ none ↔ zeros s ≡ true
 unfolding not_zero first_of zeros
 not-zero-none a [] = (λ e. refl, λ e. refl)
-not-zero-none a (x ∷ s) = simp (or_else_none, failed, and-eq-true_iff, not-zero-none (suc a) s) Iff·rfl
+not-zero-none a (x ∷ s) = simp (or_else_none, failed, and-eq-true_iff, not-zero-none (suc a) s) Iff.rfl
 
 pub zeros_byte : (b : List ℕ) → zeros b ≡ true → (p : ℕ) → byte b p ≡ 0
 unfolding zeros byte

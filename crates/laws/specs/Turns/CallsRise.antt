@@ -1,8 +1,9 @@
 -- Records that stand by rising call number. One more, put in its place: what is found then, what the list has, that calls still rise. What a test
 -- lets through rises too, no call is twice in such a list, and looking may stop at the first higher number.
+use Rattle.std.proofs.Math.Logic.Iff
 use Rattle.std.specs.Prelude.{ℕ, suc, ◌<◌, ◌≤◌, ◌≡◌, refl, ◌↔◌, List, [], ◌∷◌, Bool, length}
 use Rattle.std.proofs.Common.{sym, ap, ◌∙◌, arith, ltb-true, ltb-false, lt-ltb, le-ltb, eq-eqb, ne_eqb}
-use Rattle.std.proofs.Math.Logic.{Iff·rfl, by_cases}
+use Rattle.std.proofs.Math.Logic.{by_cases}
 use Rattle.std.proofs.Math.Option.{none, some, some-injective}
 use Rattle.std.proofs.Math.Decide.{ℕ_discrete, dec_lt}
 use Rattle.spec.specs.declared.Rec.{Rec}
@@ -62,10 +63,10 @@ under f (there h) = there (f h)
 
 pub put_has : (rs : List Rec) (r x : Rec) → Has x (put_in rs r) ↔ Has x (r ∷ rs)
 unfolding put_in
-put_has [] r x = Iff·rfl
+put_has [] r x = Iff.rfl
 put_has (a ∷ rs) r x =
     let ih = put_has rs r x in
-    put_case (λ l. Has x l ↔ Has x (r ∷ a ∷ rs)) a rs r (λ l. Iff·rfl) (λ l. (λ h. swap (under ih.0 h), λ h. under ih.1 (swap h)))
+    put_case (λ l. Has x l ↔ Has x (r ∷ a ∷ rs)) a rs r (λ l. Iff.rfl) (λ l. (λ h. swap (under ih.0 h), λ h. under ih.1 (swap h)))
 
 -- ---- rising calls
 

@@ -54,8 +54,8 @@ module _ (ops : List Op) (s : State) (i : ℕ) (m : Move)
         record {
           page = λ j x.
               stage-after s i m lt (λ j st. Reading st x → Once (act s i m) (home_of s.file (get_or ops j no_op)) x)
-              (λ k. once_after _ x (⊎_elim inl (λ q. h.page i x q) (new_reader s _ (stage_of s i) z k)))
-              (λ j e k. once_after _ x (h.page j x k))
+              (λ k. once_after (home_of s.file (get_or ops i no_op)) x (⊎_elim inl (λ q. h.page i x q) (new_reader s (get_or ops i no_op) (stage_of s i) z k)))
+              (λ j e k. once_after (home_of s.file (get_or ops j no_op)) x (h.page j x k))
               j;
         }
 

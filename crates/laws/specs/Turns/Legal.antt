@@ -1,8 +1,9 @@
 -- Every turn that an operation can use is legal; so every state of a run is good.
+use Rattle.std.proofs.Math.Logic.Iff
 use Rattle.std.specs.Prelude.{ℕ, suc, ◌+◌, ◌<◌, ◌≤◌, ◌≡◌, ◌↔◌, List, get_or, ltb}
 use Rattle.std.proofs.Math.Path.{refl, ap}
 use Rattle.std.proofs.Common.{sym, ◌∙◌, ltb-true}
-use Rattle.std.proofs.Math.Logic.{inl, inr, ⊎_elim, Iff·rfl}
+use Rattle.std.proofs.Math.Logic.{inl, inr, ⊎_elim}
 use Rattle.std.proofs.Math.Bool.{true, false, true≢false}
 use Rattle.std.proofs.Math.Option.{Option, none, some}
 use native.Mathlib.Omega.{arith}
@@ -65,14 +66,14 @@ module _ (ops : List Op) (s : State) (op : Op) (good : Good ops s) where
 
   looked_legal : (x : ℕ) (o : Option Rec) → PageNo s.file x → L (ReadPage x) (looked s op (found_of x o))
   unfolding looked found_of
-  looked_legal x none h = calm (λ p. Iff·rfl) h
-  looked_legal x (some r) h = calm (λ p. Iff·rfl) tt
+  looked_legal x none h = calm (λ p. Iff.rfl) h
+  looked_legal x (some r) h = calm (λ p. Iff.rfl) tt
 
   begin_legal : (k : Kind) (x : ℕ) → PageNo s.file x → L NotBegun (go (begin k x) same)
   unfolding begin
-  begin_legal Search x h = calm (λ p. Iff·rfl) h
-  begin_legal Insert x h = calm (λ p. Iff·rfl) h
-  begin_legal Delete x h = calm (λ p. Iff·rfl) h
+  begin_legal Search x h = calm (λ p. Iff.rfl) h
+  begin_legal Insert x h = calm (λ p. Iff.rfl) h
+  begin_legal Delete x h = calm (λ p. Iff.rfl) h
 
   -- turns that lock or unlock
   lock_legal : (x : ℕ) → PageNo s.file x → (Locked s.locks x → ⊥) → L (Lock x) (go_lock (Held x Verify) x 1 true 0)
@@ -144,7 +145,7 @@ module _ (ops : List Op) (s : State) (op : Op) (good : Good ops s) where
   decided_legal : (x : ℕ) (o : Option Rec) → PageNo s.file x → L (Held x Decide) (decided s op op.kind (found_of x o))
   unfolding new_count plan_of
   decided_legal x o h =
-      decided_case s op x (L (Held x Decide)) (λ a. calm (λ p. Iff·rfl) (h, tt)) (calm (λ p. Iff·rfl) (h, tt))
+      decided_case s op x (L (Held x Decide)) (λ a. calm (λ p. Iff.rfl) (h, tt)) (calm (λ p. Iff.rfl) (h, tt))
       (λ l u.
       let w = count-full s.file.c s.file.g (page_at s.file x) (rec_of op) l in
       claim_legal x _ h refl (omega arith) u)
@@ -152,11 +153,11 @@ module _ (ops : List Op) (s : State) (op : Op) (good : Good ops s) where
 
   page_legal : (x : ℕ) (t : Task) (a : Answer) (q : Page) → PageNo s.file x → L (Held x t) (go_page (Held x Unlock) a x q)
   page_legal x t a q h =
-      record { rule = no_span (λ p. Iff·rfl); fine = (omega arith, tt); limit = omega (arith, good.fit.within); page = refl; entry = tt }
+      record { rule = no_span (λ p. Iff.rfl); fine = (omega arith, tt); limit = omega (arith, good.fit.within); page = refl; entry = tt }
 
   written_legal : (x : ℕ) (k : Kind) (q : Page) → PageNo s.file x → L (Held x WritePage) (written s op x k q)
   unfolding written
-  written_legal x Search q h = calm (λ p. Iff·rfl) (h, tt)
+  written_legal x Search q h = calm (λ p. Iff.rfl) (h, tt)
   written_legal x Insert q h = page_legal x WritePage _ _ h
   written_legal x Delete q h = page_legal x WritePage _ _ h
 
@@ -186,7 +187,7 @@ module _ (ops : List Op) (s : State) (op : Op) (good : Good ops s) where
   unfolding split_turn page_at table_after
   split_legal x b n (WriteNew i) h k =
       record {
-        rule = no_span (λ p. Iff·rfl);
+        rule = no_span (λ p. Iff.rfl);
         fine =
             after_split (split_turn s op x b n (WriteNew i)) x b n (if (ltb i n) (WriteNew (suc i)) (entries_from s.file op x b 0)) kept h
             (new-part x b n i);
@@ -199,7 +200,7 @@ module _ (ops : List Op) (s : State) (op : Op) (good : Good ops s) where
       kept = get_or-set_other s.file.table (b + i) x _ zero_page (λ e. omega (arith, h.below))
   split_legal x b n (WriteEntry j) h k =
       record {
-        rule = no_span (λ p. Iff·rfl);
+        rule = no_span (λ p. Iff.rfl);
         fine =
             after_split (split_turn s op x b n (WriteEntry j)) x b n (entries_from s.file op x b (suc j)) refl h
             (entries_part x b n (suc j));
@@ -225,7 +226,7 @@ module _ (ops : List Op) (s : State) (op : Op) (good : Good ops s) where
   held_legal : (x : ℕ) (t : Task) → PageNo s.file x → FineTask s.file t → L (Held x t) (held_turn s op x t)
   unfolding held_turn verified old_written
   held_legal x Verify h k =
-      if_case (L (Held x Verify)) (λ e. calm (λ p. Iff·rfl) (h, tt)) (λ e. calm (λ p. Iff·rfl) (h, entry-no))
+      if_case (L (Held x Verify)) (λ e. calm (λ p. Iff.rfl) (h, tt)) (λ e. calm (λ p. Iff.rfl) (h, entry-no))
   held_legal x (Release y) h k = unlock_legal x (Release y) (Lock y) (λ p e. e) k
   held_legal x Decide h k = decided_legal x _ h
   held_legal x WritePage h k = written_legal x _ _ h
@@ -237,7 +238,7 @@ module _ (ops : List Op) (s : State) (op : Op) (good : Good ops s) where
   turn_legal NotBegun h e = begin_legal _ _ entry-no
   turn_legal (ReadPage x) h e = looked_legal x _ h
   turn_legal (Reread x t) h e =
-      if_case (L (Reread x t)) (λ u. calm (λ p. Iff·rfl) tt) (λ u. calm (λ p. Iff·rfl) entry-no)
+      if_case (L (Reread x t)) (λ u. calm (λ p. Iff.rfl) tt) (λ u. calm (λ p. Iff.rfl) entry-no)
   turn_legal (Lock x) h e = lock_legal x h (λ k. true≢false (sym k ∙ e))
   turn_legal (Held x t) h e = held_legal x t h.0 h.1
   turn_legal (Split x b n q) h e = split_legal x b n q h.0 h.1

@@ -1,9 +1,10 @@
 -- A range of places of a list set at once (`fill`), and what it does to the locks.
 use Prim.Native.Nat.{ℕ, zero, suc, ◌+◌, ◌<◌, ◌≤◌}
+use Rattle.std.proofs.Math.Logic.Dec
 use Rattle.std.specs.Prelude.{◌≡◌, ◌⊎◌, List, Bool, true, false, length, get_or, set}
 use Rattle.std.proofs.Math.Path.{refl}
 use Rattle.std.proofs.Common.{sym, ◌∙◌, inl, inr, arith, get_or-set_same, lt-length-set}
-use Rattle.std.proofs.Math.Logic.{Dec·and, by_cases}
+use Rattle.std.proofs.Math.Logic.{by_cases}
 use Rattle.std.proofs.lemmas.Bool.{false≢true}
 use Rattle.std.proofs.Math.Decide.{ℕ_discrete, dec_lt, dec_le}
 use Rattle.std.proofs.Math.ListN.{length-set}
@@ -16,7 +17,7 @@ abbrev pub Span : ℕ → ℕ → ℕ → Type 0
 Span a n p = (a ≤ p) × (p < a + n)
 
 pub span? : (a n p : ℕ) → Dec (Span a n p)
-span? a n p = Dec·and (dec_le a p) (dec_lt p (a + n))
+span? a n p = Dec.and (dec_le a p) (dec_lt p (a + n))
 
 module _ {A : Type 0} where
   pub length-fill : (l : List A) (a n : ℕ) (v : A) → length (fill l a n v) ≡ length l

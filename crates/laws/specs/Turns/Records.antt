@@ -116,11 +116,11 @@ find_has (a ∷ rs) k r h =
     by_cases (ℕ_discrete a.call k) (λ (e : a.call ≡ k). let z : a ≡ r = cc (find-hit a rs k e) in (rw z here, rw (← z) e))
     (λ e. let ih = find_has rs k r (sym (find-miss a rs k e) ∙ h) in (there ih.0, ih.1))
 
-has_some : {rs : List Rec} {r : Rec} → Has r rs → find_in rs r.call ≡ none → ⊥
+has_some : {r : Rec} {rs : List Rec} → Has r rs → find_in rs r.call ≡ none → ⊥
 has_some {r} (here {xs}) n = none_head r xs r.call n refl
 has_some {r} (there {y} {xs} h) n = has_some h (none_tail y xs r.call n)
 
-has_find : {rs : List Rec} {r : Rec} → NoneTwice rs → Has r rs → find_in rs r.call ≡ some r
+has_find : {r : Rec} {rs : List Rec} → NoneTwice rs → Has r rs → find_in rs r.call ≡ some r
 has_find {r} t (here {xs}) = find-hit r xs r.call refl
 has_find {r} (more e t) (there {y} {xs} h) = find-miss y xs r.call (λ q. has_some h (rw (← q) e)) ∙ has_find t h
 
@@ -129,7 +129,7 @@ pub same_has : (xs ys : List Rec) → NoneTwice xs → ((k : ℕ) → find_in xs
 same_has xs ys t e r h = (find_has ys r.call r (sym (e r.call) ∙ has_find t h)).0
 
 -- what holds of every record holds of one that is found
-has_each : {P : Rec → Type 0} {rs : List Rec} {r : Rec} → Has r rs → Each P rs → P r
+has_each : {P : Rec → Type 0} {r : Rec} {rs : List Rec} → Has r rs → Each P rs → P r
 has_each here h = first h
 has_each (there g) h = has_each g (rest h)
 

@@ -99,6 +99,7 @@ module _ (ops : List Op) where
       → idle s.locks (stage_of s k) ≡ false
       → total s.rows < total (steps ops s ts).rows
   unfolding steps stage_of row_of
+  somebody s [] k h e = elim h [ ]
   somebody s (t ∷ ts) k here e =
       omega (arith, ap (λ (v : State). total v.rows) (step_moves s k e), act_total s k (moves_row s k e), steps_total (step ops s k) ts)
   somebody s (t ∷ ts) k (there h) e =
@@ -145,6 +146,7 @@ module _ (ops : List Op) where
       → ((l : List Bool) → idle l (stage_of s i) ≡ false)
       → (row_of s i).used < (row_of (steps ops s ts) i).used
   unfolding steps stage_of
+  never_waits i s [] h f = elim h [ ]
   never_waits i s (t ∷ ts) here f = own_used i s ts (f s.locks)
   never_waits i s (t ∷ ts) (there h) f =
       by_cases (ℕ_discrete i t)

@@ -1,9 +1,10 @@
 -- What is known of the file while an operation is under way, by its stage: of its page, its plan and the entries. A move of another operation
 -- leaves that as it is, since it leaves alone the pages that are held.
+use Rattle.std.proofs.Math.Logic.Iff
 use Rattle.std.specs.Prelude.{ℕ, suc, ◌+◌, ◌^◌, ◌<◌, ◌≤◌, ◌≡◌, ◌⊎◌, ◌↔◌, true, length, get_or}
 use Rattle.std.proofs.Math.Path.{refl}
 use Rattle.std.proofs.Common.{sym, ap, ◌∙◌, inl, inr, arith, get_or-set_same, get_or-set_other}
-use Rattle.std.proofs.Math.Logic.{Iff·rfl, by_cases}
+use Rattle.std.proofs.Math.Logic.{by_cases}
 use Rattle.std.proofs.Math.Option.{Option, none, some}
 use Rattle.std.proofs.Math.Decide.{ℕ_discrete, dec_lt}
 use Rattle.std.proofs.Math.Seq.{set_out}
@@ -165,7 +166,7 @@ dir_other
     → (Holds st p → ⊥)
     → (get_or (directory_after w f.directory) e 0 ≡ p) ↔ (entry_at f e ≡ p)
 unfolding directory_after entry_at
-dir_other f st none e p a n = Iff·rfl
+dir_other f st none e p a n = Iff.rfl
 dir_other f st (some w) e p a n =
     by_cases (ℕ_discrete e w.entry)
     (λ (q : e ≡ w.entry). (
@@ -174,7 +175,7 @@ dir_other f st (some w) e p a n =
           (λ l h. rw (← h, set_out f.directory w.entry w.number (omega arith))),
       λ h. absurd (n (rw (← h, q) a.0)),
     ))
-    (λ q. rw (get_or-set_other f.directory w.entry e w.number 0 q) Iff·rfl)
+    (λ q. rw (get_or-set_other f.directory w.entry e w.number 0 q) Iff.rfl)
 
 -- so a move of one operation leaves alone what another holds
 pub leaves_other
