@@ -1,5 +1,7 @@
 // "Numbers are little-endian": numbers of 1, 2 and 4 bytes read from and written into a slice at any place, and runs of bytes.
 // What a writer leaves is said by one definition, `over`: the bytes at entry with some others from a place on.
+#![tactic(auto)]
+
 ghost use Rattle.std.specs.Prelude.{◌≡◌, ◌++◌, ◌+◌, ◌^◌, ◌≤◌, ◌<◌, length, take, drop, replicate};
 ghost use Rattle.spec.specs.Bytes.{byte, word, long, two, four};
 ghost use Rattle.wire.specs.Over.{over};
