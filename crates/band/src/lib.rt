@@ -69,30 +69,33 @@ fn price(band: &[u8], start: usize) -> usize
 
 // "the started units beyond the free seconds"
 fn units(band: &[u8], talked: usize) -> usize
-    requires { (length band.now ≡ band_size) × (min_unit ≤ (band_of band.now).unit) × ((band_of band.now).free ≤ talked) × (talked ≤ max_long) }
+    requires { (length band.now ≡ band_size) × (min_unit ≤ (band_of band.now).unit) × (talked ≤ max_long) }
     ensures { (result ≡ started_units (band_of band.now) talked) × (result ≤ max_long) }
 {
     let free = free(band);
+    if talked <= free {
+        return 0;
+    }
     let unit = unit(band);
     (talked - free + (unit - 1)) / unit
 }
 
 // "the fee, plus price times the started units": at most 2^64 − 2^32
 fn due(band: &[u8], start: usize, talked: usize) -> usize
-    requires { (length band.now ≡ band_size) × (min_unit ≤ (band_of band.now).unit) × ((band_of band.now).free ≤ talked) × (talked ≤ max_long) }
+    requires { (length band.now ≡ band_size) × (min_unit ≤ (band_of band.now).unit) × (talked ≤ max_long) }
     ensures { result ≡ due (band_of band.now) start talked }
 {
     let fee = fee(band) as usize;
     fee + price(band, start) * units(band, talked)
 }
 
-// "The free seconds now come first: such a call costs nothing." Any other: what is due
+// "No seconds talked costs nothing. Otherwise the charge is .."
 pub fn charge(band: &[u8], logged: &[u8]) -> usize
     requires { (length band.now ≡ band_size) × (length logged.now ≡ logged_size) × (min_unit ≤ (band_of band.now).unit) }
     ensures { result ≡ charge_in (band_of band.now) (logged_of logged.now) }
 {
     let talked = switchlog::talked(logged) as usize;
-    if talked <= free(band) {
+    if talked == 0 {
         return 0;
     }
     due(band, switchlog::start(logged) as usize, talked)

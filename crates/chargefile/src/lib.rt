@@ -9,7 +9,7 @@ use turn::Row;
 // What a call comes to. refusal 0: done, and length is the output's; else its number, with place, and length 0.
 // It is given by value, so that a refused call has written to no lent memory whatever.
 #[repr(C)]
-#[derive(Drop)]
+#[derive(Clone, Copy)]
 pub struct CallOutcome {
     pub refusal: u64,
     pub place: u64,

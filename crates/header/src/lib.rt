@@ -1,4 +1,6 @@
 // A job's header: its counts, its limits, and where each section begins. What the sections hold: sections.rt. The header of a charge file: file.rt
+#![tactic(auto)]
+
 mod file;
 mod sections;
 
@@ -9,7 +11,7 @@ ghost use Rattle.laws.specs.Codec.Rows.{Limits};
 ghost use Rattle.header.specs.Counts.{counts_of};
 
 // The counts of a job's header: g, c, P, U, m and the turn count.
-#[derive(Drop)]
+#[derive(Clone, Copy)]
 pub struct Header {
     pub depth: usize,
     pub capacity: usize,

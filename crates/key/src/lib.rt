@@ -1,4 +1,6 @@
 // Pseudo keys: the key of a call, the bits that it begins with, and how many leading bits two keys share.
+#![tactic(auto)]
+
 ghost use Rattle.std.specs.Prelude.{◌≡◌, suc, ◌*◌, ◌%◌, ◌^◌, ◌≤◌, ◌<◌, eqb};
 ghost use Rattle.spec.specs.Key.{mixed, pseudo_key, first_bits, index, shared};
 

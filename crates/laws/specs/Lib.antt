@@ -19,9 +19,8 @@ pub mod Room
 -- tidying: which pages are left, in whatever order they are joined; the tidied file; months one after another
 pub mod Tidy
 pub mod Months
--- the tariff: bands and log records; the free seconds, beside the rule before them; the output
+-- the tariff: bands and log records; the output
 pub mod Tariff
-pub mod FreeSeconds
 pub mod Priced
 -- the claims weighed: each field as a test that computes, which some wrong machine fails; a failed test refutes the claim
 pub mod Weighed

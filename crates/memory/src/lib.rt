@@ -17,7 +17,7 @@ ghost use Rattle.memory.specs.Load.{loaded, saved};
 use spec::{Found, Rec};
 
 // What does not change in a run: global depth g, capacity c and page count P.
-#[derive(Drop)]
+#[derive(Clone, Copy)]
 pub struct Shape {
     pub depth: usize,
     pub capacity: usize,

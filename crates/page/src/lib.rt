@@ -149,7 +149,7 @@ pub fn add(page: &mut [u8], r: Rec)
 }
 
 // Which records stay: those of other calls; those whose first bits are a pattern.
-#[derive(Drop)]
+#[derive(Clone, Copy)]
 pub enum Test {
     IsNot(u32),
     HasIndex(usize, usize),

@@ -60,7 +60,7 @@ pub fn split_count(page: &[u8], call: u32) -> usize
 // ---- the pieces
 
 // A page that the splits leave: the first `depth` pseudo-key bits of its calls are `pattern`; `own`: it is the call's own page.
-#[derive(Drop)]
+#[derive(Clone, Copy)]
 pub struct Piece {
     pub depth: usize,
     pub pattern: usize,

@@ -11,7 +11,7 @@ use turn::Row;
 const TEXT: usize = 85089;
 
 // The text's length, or that the lent buffer has not 85,089 bytes.
-#[derive(Drop)]
+#[derive(Clone, Copy)]
 pub enum Printed {
     Text(usize),
     NoRoom,

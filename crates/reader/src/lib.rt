@@ -11,7 +11,7 @@ ghost use Rattle.reader.specs.Parts.{directory_in, table_in, ops_in, turns_in, o
 use header::Header;
 use spec::{Kind, Op};
 
-#[derive(Drop)]
+#[derive(Clone, Copy)]
 pub struct Reader<'a> {
     pub job: &'a [u8],
     pub header: Header,

@@ -43,10 +43,6 @@ plain = record { code = 7; free = 10; unit = 60; fee = 25; prices = 2 ∷ 3 ∷ 
 abbrev wide : Band
 wide = record { code = 7; free = 255; unit = 3600; fee = 0; prices = 1 ∷ 1 ∷ 1 ∷ [] }
 
--- and before the highest fee
-abbrev high : Band
-high = record { code = 7; free = 255; unit = 1; fee = 4294967295; prices = 1 ∷ 1 ∷ 1 ∷ [] }
-
 -- no free seconds, units of a second, with a fee and one price
 abbrev steep : ℕ → ℕ → Band
 steep fee price = record { code = 7; free = 0; unit = 1; fee = fee; prices = price ∷ price ∷ price ∷ [] }
@@ -63,9 +59,9 @@ item b s n c = record { band = b; start = s; talked = n; paper = c }
 abbrev talks : List Talk
 talks =
     item plain 0 0 0  -- no seconds talked
-    ∷ item plain 0 1 0  -- within the free seconds
-    ∷ item plain 0 10 0  -- the last of them
-    ∷ item plain 0 11 27  -- and the next: the fee, and a unit has started
+    ∷ item plain 0 1 25  -- within the free seconds: the fee
+    ∷ item plain 0 10 25  -- the last free second
+    ∷ item plain 0 11 27  -- and the next: a unit has started
     ∷ item plain 0 70 27  -- the unit's last second
     ∷ item plain 0 71 29  -- and the next
     ∷ item plain 25199 11 27  -- the last second of hour 6, cheap
@@ -77,13 +73,10 @@ talks =
     ∷ item plain 2678400 11 27  -- past 31 days, hours go on: 744 is hour 0
     ∷ item plain 2707200 11 30  -- and 752 hour 8
     ∷ item plain 4294967295 4294967295 143165603  -- the last second there is: hour 6
-    ∷ item wide 0 255 0  -- without a fee
+    ∷ item wide 0 255 0  -- without a fee the free seconds cost nothing
     ∷ item wide 0 256 1
     ∷ item wide 0 3855 1
     ∷ item wide 0 3856 2
-    ∷ item high 0 255 0  -- however high the fee
-    ∷ item high 0 256 4294967296
-    ∷ item (steep 25 2) 0 1 27  -- no second is free
     ∷ item (steep 0 1) 0 4294967295 4294967295  -- 2^32 − 1
     ∷ item (steep 1 1) 0 4294967295 4294967296  -- and one more
     ∷ item (steep 4294967295 4294967295) 0 4294967295 18446744069414584320  -- the largest: 2^64 − 2^32
@@ -158,8 +151,6 @@ cases =
     ∷ refused [] log 40 14 0
     ∷ refused (band_bytes 9 0 1 1 1 1 1) (logged_bytes 5 9 0 4294967295) 0 15 0  -- 15: a charge of 2^32
     ∷ priced (band_bytes 9 0 1 0 1 1 1) (logged_bytes 5 9 0 4294967295) 10 10 (2 ∷ 0 ∷ 5 ∷ 0 ∷ 0 ∷ 0 ∷ 255 ∷ 255 ∷ 255 ∷ 255 ∷ [])  -- 2^32 − 1
-    ∷ priced (band_bytes 9 10 1 4294967295 1 1 1) (logged_bytes 5 9 0 10) 10 10 (2 ∷ 0 ∷ 5 ∷ 0 ∷ 0 ∷ 0 ∷ 0 ∷ 0 ∷ 0 ∷ 0 ∷ [])  -- within the free seconds, at the highest fee
-    ∷ refused (band_bytes 9 10 1 4294967295 1 1 1) (logged_bytes 5 9 0 11) 0 15 0  -- a second longer
     ∷ refused (set tariff 27 1) (set (set log 15 255) 23 1) 0 15 0  -- before 9 of the next record
     ∷ refused tariff log 39 11 0  -- 11: the buffer comes last
     ∷ refused tariff (set log 38 8) 39 14 32

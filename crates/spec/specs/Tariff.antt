@@ -72,7 +72,7 @@ hour_of start = start / 3600 % 24
 unfoldable pub price_at : Band → ℕ → ℕ
 price_at b start = get_or b.prices (hour_class (hour_of start)) 0
 
--- "the started units beyond the free seconds": those seconds over the unit, rounded up
+-- "the started units beyond the free seconds": those seconds over the unit, rounded up. Within the free seconds there are none
 unfoldable pub started_units : Band → ℕ → ℕ
 started_units b talked = (talked - b.free + (b.unit - 1)) / b.unit
 
@@ -80,13 +80,9 @@ started_units b talked = (talked - b.free + (b.unit - 1)) / b.unit
 unfoldable pub due : Band → ℕ → ℕ → ℕ
 due b start talked = b.fee + price_at b start * started_units b talked
 
--- "A call within its free seconds": of 1 up to so many; and one of no seconds
-unfoldable pub is_free : Band → ℕ → Bool
-is_free b talked = leb talked b.free
-
--- "No seconds talked costs nothing." "The free seconds now come first: such a call costs nothing." "Otherwise the charge is .."
+-- "No seconds talked costs nothing. Otherwise the charge is .."
 unfoldable pub charge_in : Band → Logged → ℕ
-charge_in b r = if (is_free b r.talked) 0 (due b r.start r.talked)
+charge_in b r = if (eqb r.talked 0) 0 (due b r.start r.talked)
 
 -- one of some bands has this code
 unfoldable pub is_coded : List Band → ℕ → Bool

@@ -2,7 +2,7 @@
 // Types only: nothing here runs. What each case and field stands for is said in specs/.
 
 // "kind (1 search, 2 insert, 3 delete)": the numbers are tied to the cases in specs/Job.antt.
-#[derive(Drop)]
+#[derive(Clone, Copy)]
 pub enum Kind {
     Search,
     Insert,
@@ -10,14 +10,14 @@ pub enum Kind {
 }
 
 // A call with its charge in cents, as a page keeps it.
-#[derive(Drop)]
+#[derive(Clone, Copy)]
 pub struct Rec {
     pub call: u32,
     pub charge: u32,
 }
 
 // An operation of a job.
-#[derive(Drop)]
+#[derive(Clone, Copy)]
 pub struct Op {
     pub kind: Kind,
     pub call: u32,
@@ -25,7 +25,7 @@ pub struct Op {
 }
 
 // What an operation that holds one page, and no other, does next.
-#[derive(Drop)]
+#[derive(Clone, Copy)]
 pub enum Task {
     Verify,
     Release(u16),
@@ -37,7 +37,7 @@ pub enum Task {
 
 // What an operation that holds a page and the new pages of its split does next:
 // write a new page (from 1), write an entry, unlock the new pages.
-#[derive(Drop)]
+#[derive(Clone, Copy)]
 pub enum Part {
     WriteNew(u16),
     WriteEntry(u16),
@@ -47,7 +47,7 @@ pub enum Part {
 // Where an operation stands, that is what its next turn does. `ReadPage` and `Lock` have the page that it will read or lock; `Reread` has the page
 // that it read, and the turn of that reading; `Held` has the page held; `Split` has the page held, the number of pages in use before the split, and
 // the number of its new pages.
-#[derive(Drop)]
+#[derive(Clone, Copy)]
 pub enum Stage {
     NotBegun,
     ReadPage(u16),
@@ -59,28 +59,28 @@ pub enum Stage {
 }
 
 // What looking for a call in a page comes to: the page's number, and the call's charge there, or that it is missing.
-#[derive(Drop)]
+#[derive(Clone, Copy)]
 pub enum Found {
     Charge(u16, u32),
     Missing(u16),
 }
 
 // The lowest place at which a row of the refusal table holds, or none.
-#[derive(Drop)]
+#[derive(Clone, Copy)]
 pub enum Spot {
     At(usize),
     Nowhere,
 }
 
 // What the check of a job's bytes, or of a page's, comes to: no fault, or number and place of the first.
-#[derive(Drop)]
+#[derive(Clone, Copy)]
 pub enum Checked {
     Accepted,
     Refused(usize, usize),
 }
 
 // What a call comes to: done, with the length of its output; or refused, with number and place.
-#[derive(Drop)]
+#[derive(Clone, Copy)]
 pub enum Outcome {
     Done(usize),
     Refused(usize, usize),

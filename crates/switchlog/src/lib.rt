@@ -1,4 +1,6 @@
 // The switch's log: records of 16 bytes, read where they stand.
+#![tactic(auto)]
+
 ghost use Rattle.std.specs.Prelude.{◌≡◌, ◌<◌, length, get_or};
 ghost use Rattle.spec.specs.Cases.{spot_of};
 ghost use Rattle.spec.specs.SwitchLog.{logged_size, no_logged, logged_of, switch_log, broken_log};

@@ -1,4 +1,6 @@
 // Text written into a slice, front to back: each function writes at a place and answers the place behind what it wrote.
+#![tactic(auto)]
+
 ghost use Rattle.std.specs.Prelude.{◌++◌, ◌+◌, ◌≤◌, ◌<◌, length};
 ghost use Rattle.spec.specs.Bytes.{byte, word, long};
 ghost use Rattle.spec.specs.Report.{decimal};

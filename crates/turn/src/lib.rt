@@ -18,7 +18,7 @@ use spec::{Op, Stage};
 // `told`) is kept as its number less one, so that page 256 has a byte too, and what a split counts (`count`, `next`) is below 256. `base` may be a
 // turn, and has 16 bits like `used` and `moment`.
 #[repr(C)]
-#[derive(Drop)]
+#[derive(Clone, Copy)]
 pub struct Row {
     pub charge: u32,
     pub used: u16,

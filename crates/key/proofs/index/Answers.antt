@@ -1,0 +1,8 @@
+-- `key::index` meets its contract: the first bits of the call's pseudo key.
+use Rattle.spec.specs.Key.{index}
+use borrow.Author.Rules.{rules}
+use Rattle.key.proofs.index.Goals as goal
+
+pub returns : goal.returns
+unfolding index
+returns c = rw (← c.pseudo_key.ensures) c.first_bits.ensures

@@ -1,0 +1,8 @@
+-- `key::mix` meets its contract.
+use Rattle.spec.specs.Key.{mixed}
+use borrow.Author.Rules.{rules}
+use Rattle.key.proofs.mix.Goals as goal
+
+pub returns : goal.returns
+unfolding mixed
+returns c = c.times.ensures

@@ -1,0 +1,7 @@
+use native.Mathlib.Omega.{arith}
+use Rattle.spec.specs.SwitchLog.{logged_of}
+use Rattle.switchlog.proofs.spare.Goals as goal
+
+pub returns : goal.returns
+unfolding logged_of
+returns c = c.u8_at.ensures.0
