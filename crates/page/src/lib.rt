@@ -1,6 +1,8 @@
 // One page's bytes: "l (1), record count (1), pattern (2), then records of call number and charge". A page is the page's part of a
 // lent slice, of any capacity: a reader says what the page is that its bytes show, and a writer leaves the bytes of a page, in which
 // "a record no longer used, here or after a split, is zero". Nothing beside the page is touched.
+#![tactic(auto)]
+
 ghost use Rattle.std.specs.Prelude.{◌≡◌, ◌+◌, ◌-◌, ◌≤◌, ◌<◌, length};
 ghost use Rattle.spec.specs.Bytes.{byte};
 ghost use Rattle.spec.specs.Basics.{each};

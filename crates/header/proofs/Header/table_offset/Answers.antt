@@ -1,0 +1,7 @@
+use native.Mathlib.Omega.{arith}
+use Rattle.spec.specs.Job.{table_offset}
+use Rattle.header.proofs.Header.table_offset.Goals as goal
+
+pub returns : goal.returns
+unfolding table_offset
+returns c = omega arith

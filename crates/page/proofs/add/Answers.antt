@@ -1,0 +1,10 @@
+-- `page::add` meets its contract: one record in its place among the page's own.
+use native.Mathlib.Omega.{arith}
+use Rattle.page.specs.ImageLaws.{added_image}
+use borrow.Author.Rules.{rules}
+use Rattle.page.proofs.add.Goals as goal
+
+pub returns : goal.returns
+returns c =
+    let n = c.count-n in
+    cc (added_image c.args.page.now c.args.r n.result c.requires.0 n.ensures.1 (omega arith))

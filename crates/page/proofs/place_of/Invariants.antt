@@ -1,0 +1,15 @@
+-- `page::place_of` meets its contract: i records are not higher, and the place is i behind its place among those that are left.
+use mathlib.Core.Path.{◌≡◌, sym, ap, ◌∙◌}
+use Prim.Native.Nat.{◌+◌, ◌-◌, ◌<◌, ◌≤◌}
+use native.Mathlib.Omega.{arith}
+use native.Mathlib.Nat.{sub-zero}
+use Rattle.page.specs.View.{record_at, records_from, left_more, left_none}
+use Rattle.page.specs.Put.{place_in}
+use Rattle.page.specs.PutLaws.{place_none, place_here, place_later}
+use Rattle.page.proofs.place_of.Given as goal
+
+abbrev pub invariant-loop-i : goal.invariant-loop-i
+invariant-loop-i l = (l.i ≤ l.n) × (place_in (records_from l.page 0 l.n) l.call ≡ l.i + place_in (records_from l.page l.i (l.n - l.i)) l.call)
+
+abbrev pub decreases-loop-i : goal.decreases-loop-i
+decreases-loop-i l = l.n - l.i
