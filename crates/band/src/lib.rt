@@ -1,4 +1,6 @@
 // What a call costs by its band: the class of its hour, the started units, the charge. A band is 20 bytes, read where it stands.
+#![tactic(auto)]
+
 ghost use Rattle.std.specs.Prelude.{◌≡◌, ◌≤◌, ◌<◌, length};
 ghost use Rattle.spec.specs.SwitchLog.{logged_size, logged_of};
 ghost use Rattle.spec.specs.Tariff.{band_size, band_of, min_unit, hour_class, price_at, started_units, due, charge_in};

@@ -1,4 +1,6 @@
 // The check of a job's bytes: all rows of the refusal table that are about them alone.
+#![tactic(auto)]
+
 mod head;
 mod owner;
 mod records;

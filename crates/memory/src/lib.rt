@@ -1,6 +1,8 @@
 // The working memory of a run, in one lent buffer: the directory, the locks, the pages in use, the turns on which entries were changed, and the
 // pages. specs/Memory.antt says what stands where. A reader says what stands in the memory, and a writer leaves the memory with one thing
 // changed, so that the laws of specs/ tell what every reader then reads.
+#![tactic(auto)]
+
 ghost use Rattle.std.specs.Prelude.{◌≡◌, not, ℕ, suc, ◌+◌, ◌-◌, ◌≤◌, ◌<◌, eqb, length, get_or, take, drop, replicate};
 ghost use Rattle.spec.specs.Bytes.{byte, word};
 ghost use Rattle.spec.specs.File.{zero_page};

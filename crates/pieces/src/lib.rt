@@ -1,4 +1,6 @@
 // The pieces that splits leave of a full page: how many new pages there are, what goes into each, and a page's bytes rewritten as one of them.
+#![tactic(auto)]
+
 ghost use Rattle.std.specs.Prelude.{◌≡◌, ℕ, suc, ◌+◌, ◌-◌, ◌≤◌, min, length, get_or};
 ghost use Rattle.spec.specs.Bytes.{byte};
 ghost use Rattle.spec.specs.File.{zero_page};

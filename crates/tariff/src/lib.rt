@@ -1,5 +1,7 @@
 // "The tariff": a tariff and the switch's log are checked, and come to an insert for each record. Nothing is written before all is checked, so there
 // are two walks over the log, and no memory is lent but the output.
+#![tactic(auto)]
+
 mod bands;
 mod inserts;
 mod records;

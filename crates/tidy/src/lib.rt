@@ -1,5 +1,7 @@
 // Tidying between runs: a charge file is checked, the pages that are left are found, and the tidied file is written with a directory of the wanted
 // depth. Nothing is written before all refusals are decided, and no memory is lent but the output.
+#![tactic(auto)]
+
 mod directory;
 mod left;
 mod pages;

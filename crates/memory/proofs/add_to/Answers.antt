@@ -1,0 +1,19 @@
+use native.Mathlib.Omega.{arith}
+use Rattle.spec.specs.Split.{added}
+use Rattle.memory.specs.Places.{part_count, part_room, part_sound}
+use Rattle.memory.specs.Lent.{lent, rewritten}
+use borrow.Author.Rules.{rules}
+use Rattle.memory.proofs.add_to.Goals as goal
+
+pub add-requires : goal.add-requires
+add-requires c =
+    let g = c.args in
+    let o = c.requires.0 in
+    rw (lent g.c g.work.now g.x c.place-a.result c.place-a.ensures.0, part_room o)
+    (part_sound o (omega arith), omega (arith, part_count g.c g.work.now g.x, c.requires.1))
+
+pub returns : goal.returns
+returns c =
+    let at = c.place-a in
+    let done = c.add in
+    rewritten (λ k p. added p c.args.r) at.result done.new.0 c.requires.0 at.ensures.0 done.auto.0 done.ensures

@@ -1,0 +1,7 @@
+use Rattle.memory.specs.Memory.{lock_in}
+use borrow.Author.Rules.{rules}
+use Rattle.memory.proofs.is_locked.Goals as goal
+
+pub returns : goal.returns
+unfolding lock_in
+returns c = cc

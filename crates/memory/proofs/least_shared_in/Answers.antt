@@ -1,0 +1,7 @@
+use Rattle.memory.specs.Memory.{page_in}
+use borrow.Author.Rules.{rules}
+use Rattle.memory.proofs.least_shared_in.Goals as goal
+
+pub returns : goal.returns
+unfolding page_in
+returns c = rw c.part.ensures.0 at c.least_shared.ensures

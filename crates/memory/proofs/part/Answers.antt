@@ -1,0 +1,11 @@
+use mathlib.Core.Path.{refl, sym}
+use borrow.Author.Rules.{rules}
+use Rattle.memory.specs.Places.{part_count, part_length}
+use Rattle.memory.specs.Lent.{lent}
+use Rattle.memory.proofs.part.Goals as goal
+
+pub returns : goal.returns
+returns c =
+    let g = c.args in
+    rw (lent g.c g.work.now g.x c.place-a.result c.place-a.ensures.0)
+    (refl, part_length c.requires, sym (part_count g.c g.work.now g.x))

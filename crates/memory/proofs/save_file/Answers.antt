@@ -1,0 +1,23 @@
+use Prim.Native.Nat.{◌+◌, ◌*◌}
+use Rattle.spec.specs.Job.{page_size}
+use Rattle.memory.specs.Memory.{place_of}
+use lib.ListN.{take, drop}
+use Rattle.wire.specs.Parts.{length_part}
+use native.Mathlib.Omega.{arith}
+use Rattle.memory.specs.Load.{saved}
+use Rattle.memory.specs.Places.{pages_end}
+use Rattle.wire.specs.OverLaws.{over-over}
+use borrow.Author.Rules.{rules}
+use Rattle.memory.proofs.save_file.Goals as goal
+
+pub copy-requires-2 : goal.copy-requires-2
+copy-requires-2 c =
+    omega (arith, pages_end c.args.c c.args.pages c.requires.capacity c.requires.pages, c.place.ensures.0, c.requires.room)
+
+pub returns : goal.returns
+unfolding saved
+returns c =
+    let g = c.args in
+    let size = length_part g.work.now 0 (2 * g.entries) (omega (arith, c.requires.entries)) in
+    let pages = take (page_size g.c * g.pages) (drop (place_of g.c 1) g.work.now) in
+    cc (over-over (take (2 * g.entries) g.work.now) pages g.out.now g.at (g.at + 2 * g.entries) (omega (arith, size)))

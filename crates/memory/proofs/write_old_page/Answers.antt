@@ -1,0 +1,24 @@
+use Prim.Native.Nat.{suc}
+use native.Mathlib.Omega.{arith}
+use Rattle.spec.specs.Split.{grow}
+use Rattle.memory.specs.Memory.{page_in}
+use Rattle.memory.specs.Places.{part_room, part_sound}
+use Rattle.memory.specs.Lent.{lent, rewritten}
+use borrow.Author.Rules.{rules}
+use Rattle.memory.proofs.write_old_page.Goals as goal
+
+pub write_old-requires : goal.write_old-requires
+write_old-requires c =
+    let g = c.args in
+    let o = c.requires.0 in
+    rw (lent g.c g.work.now g.x c.place-a.result c.place-a.ensures.0, part_room o)
+    (part_sound o (omega (arith, c.requires.1.full)), unfold page_in in c.requires.1, unfold page_in in c.requires.2)
+
+pub returns : goal.returns
+returns c =
+    let w = c.args in
+    let at = c.place-a in
+    let done = c.write_old in
+    λ g h.
+    rewritten (λ k p. (grow k (suc g) p w.r).old) at.result done.new.0 c.requires.0 at.ensures.0 done.auto.0
+    (done.ensures g (rw (lent w.c w.work.now w.x at.result at.ensures.0) (unfold page_in in h)))

@@ -1,0 +1,16 @@
+-- `pieces::least_shared` meets its contract: the least of all is the least so far or the least among the records that are left.
+use mathlib.Core.Path.{◌≡◌, sym, ◌∙◌}
+use Prim.Native.Nat.{◌+◌, ◌-◌, ◌≤◌, min}
+use native.Mathlib.Omega.{arith}
+use Rattle.spec.specs.Key.{pseudo_key, shared}
+use Rattle.spec.specs.Split.{least_shared}
+use Rattle.spec.specs.Decode.{page_of}
+use Rattle.page.specs.View.{record_at, records_from, left_all, left_more, left_none}
+use Rattle.pieces.specs.Least.{least_start, least-turn, least_end}
+use Rattle.pieces.proofs.least_shared.Given as goal
+
+abbrev pub invariant-loop-i : goal.invariant-loop-i
+invariant-loop-i l = (l.i ≤ l.n) × (l.least ≤ 32) × (least_shared (page_of l.page).records l.call ≡ min l.least (least_shared (records_from l.page l.i (l.n - l.i)) l.call))
+
+abbrev pub decreases-loop-i : goal.decreases-loop-i
+decreases-loop-i l = l.n - l.i

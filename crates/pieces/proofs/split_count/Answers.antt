@@ -1,0 +1,8 @@
+-- `pieces::split_count` meets its contract: by the shared bits and the page's depth.
+use native.Mathlib.Omega.{arith}
+use Rattle.spec.specs.Split.{split_count}
+use Rattle.pieces.proofs.split_count.Goals as goal
+
+pub returns : goal.returns
+unfolding split_count
+returns c = omega arith

@@ -1,0 +1,7 @@
+use Rattle.spec.specs.Decode.{op_of}
+use native.Mathlib.Omega.{arith}
+use Rattle.reader.proofs.op_of.Goals as goal
+
+pub returns : goal.returns
+unfolding op_of
+returns c = cc

@@ -1,0 +1,17 @@
+use mathlib.Core.Path.{refl, sym, ap, ◌∙◌}
+use Prim.Native.Nat.{◌-◌, ◌*◌}
+use native.Mathlib.Omega.{arith}
+use lib.ListN.{take}
+use lib.Seq.{take_all}
+use Rattle.spec.specs.Tariff.{Band, band_size, bands_of, no_band, bad_band, band_fault}
+use Rattle.laws.specs.Codec.Passed.{Clear, clear_none, clear_more, clear_hit, clear_all}
+use Rattle.tariff.specs.Index.{Indexed}
+use Rattle.tariff.proofs.Filled.{told, index-next}
+use Rattle.tariff.proofs.bands.first_bad.Given as goal
+
+-- no band before band i is bad, and all of them are in the index
+abbrev pub invariant-loop-i : goal.invariant-loop-i
+invariant-loop-i l = Clear (bad_band (bands_of l.tariff)) (bands_of l.tariff) no_band l.i × Indexed (take l.i (bands_of l.tariff)) l.index
+
+abbrev pub decreases-loop-i : goal.decreases-loop-i
+decreases-loop-i l = l.n - l.i
