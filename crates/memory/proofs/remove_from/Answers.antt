@@ -13,4 +13,4 @@ pub returns : goal.returns
 returns c =
     let at = c.place-a in
     let done = c.remove in
-    rewritten (λ k p. cleared p c.args.call) at.result done.new.0 c.requires.0 at.ensures.0 done.auto.0 done.ensures
+    rewritten (λ k p. cleared p c.args.call) at.result done.new.page c.requires.0 at.ensures.0 done.auto.page done.ensures

@@ -25,5 +25,5 @@ returns c =
     let at = c.place-a in
     let done = c.write_new in
     λ g h.
-    rewritten_copy o c.requires.1 k (λ q p. get_or (grow q (suc g) p c.args.r).news (c.args.i - 1) zero_page) at.result done.new.0
-    at.ensures.0 done.auto.0 (done.ensures g (rw (lent_copy o c.requires.1 k at.result at.ensures.0) (unfold page_in in h)))
+    rewritten_copy o c.requires.1 k (λ q p. get_or (grow q (suc g) p c.args.r).news (c.args.i - 1) zero_page) at.result done.new.page
+    at.ensures.0 done.auto.page (done.ensures g (rw (lent_copy o c.requires.1 k at.result at.ensures.0) (unfold page_in in h)))

@@ -20,5 +20,5 @@ returns c =
     let at = c.place-a in
     let done = c.write_old in
     λ g h.
-    rewritten (λ k p. (grow k (suc g) p w.r).old) at.result done.new.0 c.requires.0 at.ensures.0 done.auto.0
+    rewritten (λ k p. (grow k (suc g) p w.r).old) at.result done.new.page c.requires.0 at.ensures.0 done.auto.page
     (done.ensures g (rw (lent w.c w.work.now w.x at.result at.ensures.0) (unfold page_in in h)))

@@ -16,7 +16,7 @@ returns-in-Refused c = comes_refused _ _ (refused _ _ _ (sym c.in-Refused.is ∙
 pub write-requires : goal.write-requires
 write-requires c =
     let fine : log_fault (length c.args.out.now) c.args.tariff.now c.args.log.now ≡ none =
-         accepted _ (sym c.in_default.is ∙ c.wrong_log-c.ensures) in
+    accepted _ (sym c.in_default.is ∙ c.wrong_log-c.ensures) in
     let known = c.requires in
     let n = passed _ _ _ fine in
     (known, n.0, n.1)
@@ -24,5 +24,5 @@ write-requires c =
 pub returns : goal.returns
 returns c =
     let fine : log_fault (length c.args.out.now) c.args.tariff.now c.args.log.now ≡ none =
-         accepted _ (sym c.in_default.is ∙ c.wrong_log-c.ensures) in
+    accepted _ (sym c.in_default.is ∙ c.wrong_log-c.ensures) in
     comes_done fine c.write.ensures.0 c.write.ensures.1 (rw size (passed _ _ _ fine).1)

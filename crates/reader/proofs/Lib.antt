@@ -1,3 +1,0 @@
--- No contract cites these files.
-pub mod Walk
-pub mod Calls
