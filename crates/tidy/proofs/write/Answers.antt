@@ -53,7 +53,7 @@ returns c =
     let two = second in
     let is = tidied-length c.requires.0 c.args.left.now c.requires.1 c.args.depth 0 c.requires.2 in
     let third =
-    part_back _ p.new.table.1.1.0 (32 + 2 * n.result) z.result p.auto.table.1.1.0 (omega (arith, n.ensures.0, z.ensures.0)) (omega (arith, two.size, f.auto.out)) in (
+    part_back _ p.new.table (32 + 2 * n.result) z.result p.auto.table (omega (arith, n.ensures.0, z.ensures.0)) (omega (arith, two.size, f.auto.out)) in (
       z.ensures.0 ∙ sym is,
       written c.requires.0 c.args.left.now c.requires.1 c.args.depth c.requires.2 c.args.out.now (32 + 2 * n.result) f.ensures
           (two.is ∙ rw d.ensures) (third ∙ rw p.ensures) (omega (arith, n.ensures.0)),
