@@ -1,4 +1,7 @@
-use mathlib.Core.Path.{sym, ◌∙◌}
+use mathlib.Core.Path.{ap, sym, ◌∙◌}
+use Rattle.spec.specs.declared.Kind.{Kind}
+use Rattle.spec.specs.declared.Kind.TheVariants.{Insert}
+use Rattle.memory.specs.Memory.{found_in}
 use Rattle.turn.specs.Steps.{mem_decided, mem_refused}
 use Rattle.turn.proofs.Founds.{missing_page, decided_search}
 use borrow.Author.Rules.{rules}
@@ -18,7 +21,12 @@ returns-in-Charge c = rw (c.settled.ensures, c.in-Insert.is, sym c.find_in-found
 
 pub returns-in-Missing : goal.returns-in-Missing
 unfolding mem_decided
-returns-in-Missing c = rw (c.place.ensures, c.in-Insert.is, sym c.find_in-found.ensures ∙ c.in-Missing.is)
+returns-in-Missing c =
+    let a = c.args in
+    c.place.ensures
+    ∙ sym
+    (ap (λ (k : Kind). mem_decided a.shape a.op a.t a.self a.work.now k (found_in a.shape.capacity a.work.now a.x a.op.call)) c.in-Insert.is
+      ∙ ap (mem_decided a.shape a.op a.t a.self a.work.now Insert) (sym c.find_in-found.ensures ∙ c.in-Missing.is))
 
 pub returns-in-Charge-found : goal.returns-in-Charge-found
 unfolding mem_decided

@@ -19,7 +19,7 @@ pub overflow_add-u : goal.overflow_add-u
 unfolding split_count
 overflow_add-u c =
     let count : c.splits-n.result ≡ split_count (page_in c.args.shape.capacity c.args.work.now c.args.x) c.args.op.call = rw (c.splits-n.ensures, c.page_depth.ensures.0, c.least_shared_in-least.ensures.0) in
-    let few : c.splits-n.result ≤ 33 = rw (count) (split_most _ _) in
+    let few : c.splits-n.result ≤ 33 = rw count (split_most (page_in c.args.shape.capacity c.args.work.now c.args.x) c.args.op.call) in
     omega arith
 
 pub returns-then-shape-u : goal.returns-then-shape-u

@@ -6,8 +6,7 @@ use Rattle.turn.proofs.Row.read_page.Goals as goal
 
 pub found_at-at-requires : goal.found_at-at-requires
 found_at-at-requires c =
-    let v = c.found-1.given in
-    let some = found_some _ _ _ _ (sym c.find_in-found.ensures ∙ v.1) in
+    let some = found_some _ _ _ _ (sym c.find_in-found.ensures ∙ c.in-Charge.is) in
     rw (← some.2) (c.requires.0, c.requires.2.page.number, c.requires.2.stale some.0 some.1)
 
 pub returns-in-Charge : goal.returns-in-Charge

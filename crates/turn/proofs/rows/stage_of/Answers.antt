@@ -60,7 +60,7 @@ pub returns-in_default : goal.returns-in_default
 unfolding stage_in if
 returns-in_default c =
     let k = c.args.row.stage in
-    let n = c.in_default.rest in
+    let n = c.in_default.in_default-own.rest in
     rw (
       ne_eqb k 0 n.0.0.0.0.0.0.0.0.0.0.0.0.1,
       ne_eqb k 1 n.0.0.0.0.0.0.0.0.0.0.0.1,
