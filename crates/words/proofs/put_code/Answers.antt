@@ -53,6 +53,6 @@ returns-in-9 c = rw c.in-9.is (wider (omega arith) c.put_bytes-in-9.ensures)
 pub returns-in_default : goal.returns-in_default
 unfolding text code_word
 returns-in_default c =
-    let no = c.in_default.rest in
+    let no = c.in_default.in_default-own.rest in
     let high : 10 ≤ c.args.code = past (past (past (past (past (past (past (past (past (past zero-le no.0.0.0.0.0.0.0.0.0.1) no.0.0.0.0.0.0.0.0.1) no.0.0.0.0.0.0.0.1) no.0.0.0.0.0.0.1) no.0.0.0.0.0.1) no.0.0.0.0.1) no.0.0.0.1) no.0.0.1) no.0.1) no.1 in
     rw (get_or-eq_default code_words [] {n = c.args.code}) (wider (omega arith) c.put_bytes-in_default.ensures)

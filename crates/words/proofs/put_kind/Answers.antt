@@ -20,5 +20,5 @@ returns-in-3 c = rw c.in-3.is (wider (omega arith) c.put_bytes-in-3.ensures)
 pub returns-in_default : goal.returns-in_default
 unfolding text kind_of kind_word if
 returns-in_default c =
-    let no = c.in_default.rest in
+    let no = c.in_default.in_default-own.rest in
     rw (ne_eqb _ 2 no.0.1, ne_eqb _ 3 no.1) (wider (omega arith) c.put_bytes-in_default.ensures)
