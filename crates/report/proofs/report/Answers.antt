@@ -10,7 +10,7 @@ returns-then-file-eq0 c =
     let a = c.args in
     let e = c.u32_at-file.ensures in
     wider (omega arith)
-    (same (report-none a.job.now a.result.now (sym e ∙ c.if-file-eq0.true))
+    (same (report-none a.job.now a.res.now (sym e ∙ c.if-file-eq0.true))
     (then (then c.job_line-end.ensures c.answer_lines-end.ensures) c.log_lines-end.ensures))
 
 pub slice_bounds-file_lines-count : goal.slice_bounds-file_lines-count
@@ -19,7 +19,9 @@ slice_bounds-file_lines-count c =
     (charge-lent c.args.job.now c.args.res.now _ _ c.requires.1 f.ensures c.u32_at-total.ensures c.if-file-eq0.false).0
 
 pub slice_bounds-file_lines-start : goal.slice_bounds-file_lines-start
-slice_bounds-file_lines-start c = sub-file-lines @@PLACE(After-file_lines-arg)
+slice_bounds-file_lines-start c =
+    let f = c.u32_at-file in
+    (charge-lent c.args.job.now c.args.res.now _ _ c.requires.1 f.ensures c.u32_at-total.ensures c.if-file-eq0.false).0
 
 pub slice_bounds-file_lines-end : goal.slice_bounds-file_lines-end
 slice_bounds-file_lines-end c =
@@ -37,5 +39,5 @@ returns c =
     let f = c.u32_at-file in
     let t = c.u32_at-total in
     wider (omega arith)
-    (same (report-some a.job.now a.result.now f.result t.result f.ensures t.ensures c.if-file-eq0.false)
+    (same (report-some a.job.now a.res.now f.result t.result f.ensures t.ensures c.if-file-eq0.false)
     (then (then (then c.job_line-end.ensures c.answer_lines-end.ensures) c.log_lines-end.ensures) c.file_lines.ensures))
