@@ -1,5 +1,7 @@
 // "Turns dealt for the site": a job with operations and no turns is checked, its turns are dealt on the lent table and working memory, and the
 // same job is written with the list. The functions over the lent table are thin and proved by hand.
+#![tactic(auto)]
+
 ghost use Rattle.std.specs.Prelude.{◌≡◌, ◌+◌, ◌*◌, ◌≤◌, length, replicate};
 ghost use Rattle.spec.specs.Bytes.{AreBytes, two, four};
 ghost use Rattle.spec.specs.Job.{header_size, turn_count_at, total_at, turn_size};

@@ -40,9 +40,9 @@ module _ (h : Header) (b : List ℕ) where
       give_still k (give_up_to h b k u) (le_trans l (up_grows k u)) ∙ up_still k u (le_trans (give_grows k (give_up_to h b k u)) l)
 
   -- ---- rounds
-  pub none-dealt : (u : Dealing) → rounds_on h b 0 u ≡ u
+  pub none_dealt : (u : Dealing) → rounds_on h b 0 u ≡ u
   unfolding rounds_on
-  none-dealt u = refl
+  none_dealt u = refl
 
   pub one_more : (k : ℕ) (u : Dealing) → round_on h b (rounds_on h b k u) ≡ rounds_on h b (k + 1) u
   unfolding rounds_on
@@ -72,15 +72,25 @@ module _ (h : Header) (b : List ℕ) where
             let still : round_on h b (rounds_on h b k u) ≡ rounds_on h b k u = up_still h.ops (rounds_on h b k u) (subst (λ (v : Dealing). v.turns ≤ (rounds_on h b k u).turns) (sym (one_more k u)) m) in
             sym (one_more k u) ∙ still ∙ sym (stays k u still max_dealt (le_trans l most))
 
--- how many rounds there can be yet
+    -- where dealing stands: after some rounds, with the word whether it goes on
+    abbrev pub Upto : Dealing → Bool → Type 0
+    Upto s m = (k : ℕ) × (Goes k m × (s ≡ rounds_on h b k u))
+
+    pub begun : Upto u true
+    begun = (0, ((λ t. omega arith, λ t. absurd t), sym (none_dealt u)))
+
+    -- a round more
+    pub passed
+        : ((n : ℕ) → (rounds_on h b n u).turns ≤ max_dealt)
+        → {s s' : Dealing}
+        → Upto s true
+        → s' ≡ round_on h b s
+        → Upto s' (ltb s.turns s'.turns)
+    passed most {s} {s'} (k, (g, e)) r =
+        let next : s' ≡ rounds_on h b (k + 1) u = r ∙ ap (round_on h b) e ∙ one_more k u in
+        (k + 1, (rw (e, next) (goes_on k (g.0 tt) (most k)), next))
+
+-- how many turns there can be yet
 abbrev pub left : ℕ → Bool → ℕ
-left k true = max_dealt + 1 - k
-left k false = 0
-
-pub fewer : (k : ℕ) (m n : Bool) → T m → k ≤ max_dealt → left (k + 1) n < left k m
-fewer k true true t l = omega arith
-fewer k true false t l = omega arith
-fewer k false n t l = absurd t
-
-pub turns_fit : (t : ℕ) → t ≤ max_dealt → t < 2 ^ 64
-turns_fit t l = omega arith
+left n true = max_dealt + 1 - n
+left n false = 0

@@ -1,5 +1,7 @@
 // "The list is dealt in rounds, by rising operation number": on the lent table and the working memory of a run, each turn being written into the
 // output behind the job. The functions over the lent table are thin and proved by hand.
+#![tactic(auto)]
+
 ghost use Rattle.std.specs.Prelude.{◌≡◌, false, ℕ, ◌+◌, ◌≤◌, ◌<◌, eqb, length};
 ghost use Rattle.spec.specs.Basics.{if};
 ghost use Rattle.spec.specs.Bytes.{two};
