@@ -144,3 +144,12 @@ module _ {b s : List ℕ} {x : List Row} {w : List ℕ} (a : Accepted b s x w) w
                 work = c.2 ∙ ap (λ (k : ℕ). replicate {A = ℕ} k 0) lw;
               };
         }
+
+-- the table and the memory that the first calls leave are what the rounds begin with
+pub first_is
+    : (h : Header) (b s : List ℕ) (x : List Row) (w : List ℕ) (z : List Row) (u : List ℕ) (r : Row)
+    → z ≡ replicate (length x) r
+    → r ≡ blank_row
+    → u ≡ work₁ h b w
+    → dealing z s u 0 ≡ first h b s x w
+first_is h b s x w z u r ez er eu = λ i. dealing ((ez ∙ ap (replicate (length x)) er) i) s (eu i) 0
