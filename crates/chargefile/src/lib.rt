@@ -1,4 +1,6 @@
 // The library for C and Rust programs: include/chargefile.h says how to call it.
+#![tactic(auto)]
+
 ghost use Rattle.std.specs.Prelude.{◌≡◌};
 ghost use Rattle.chargefile.specs.Handed.{outcome_of, handed};
 ghost use Rattle.chargefile.specs.Called.{CheckCalled, Called, DealCalled, TidyCalled, PriceCalled};

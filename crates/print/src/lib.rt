@@ -1,4 +1,6 @@
 // What `chargelog` prints for a job, in a lent buffer.
+#![tactic(auto)]
+
 ghost use Rattle.std.specs.Prelude.{◌≡◌};
 ghost use Rattle.run.specs.Call.{Settled};
 ghost use Rattle.print.specs.Table.{full_table};

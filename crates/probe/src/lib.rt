@@ -1,4 +1,6 @@
 // The page functions under plain names, for the tests alone: each takes one page's bytes. What `requires` asks, the tests see to.
+#![tactic(auto)]
+
 ghost use Rattle.std.specs.Prelude.{◌≡◌, ℕ, suc, ◌-◌, ◌≤◌, ◌<◌, length, get_or};
 ghost use Rattle.spec.specs.Bytes.{byte};
 ghost use Rattle.spec.specs.File.{zero_page, look_in, found_of};

@@ -1,0 +1,6 @@
+use borrow.Author.Rules.{rules}
+use Rattle.chargefile.proofs.Laws.{tidy_called}
+use Rattle.chargefile.proofs.chargefile_tidy.Goals as goal
+
+pub returns : goal.returns
+returns c = tidy_called _ c.tidy-o.ensures c.handed.ensures
