@@ -1,4 +1,6 @@
 // The lines that `chargelog` prints, each from the bytes that it tells of.
+#![tactic(auto)]
+
 ghost use Rattle.std.specs.Prelude.{◌+◌, ◌≤◌, length};
 ghost use Rattle.spec.specs.Decode.{job_of, op_of};
 ghost use Rattle.spec.specs.Result.{answer_of, line_of};

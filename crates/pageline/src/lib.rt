@@ -1,4 +1,6 @@
 // The `page` line, from a page's bytes.
+#![tactic(auto)]
+
 ghost use Rattle.std.specs.Prelude.{◌++◌, map, ◌+◌, ◌*◌, ◌≤◌, length};
 ghost use Rattle.spec.specs.Basics.{each};
 ghost use Rattle.spec.specs.Bytes.{byte, word, parts, text};

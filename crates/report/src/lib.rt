@@ -1,4 +1,6 @@
 // What `chargelog` prints, as bytes in a buffer: the report of a job that was run, or the line of a refused one.
+#![tactic(auto)]
+
 mod sections;
 
 ghost use Rattle.std.specs.Prelude.{◌≤◌, length};

@@ -1,5 +1,7 @@
 // The result of a run, in the lent result buffer: "Header, 24 bytes", answers, log and charge file. The caller tells the operations' rows one
 // by one, and then has the rest written. No function here takes the table of rows.
+#![tactic(auto)]
+
 ghost use Rattle.std.specs.Prelude.{◌≡◌, ◌+◌, ◌*◌, ◌^◌, ◌≤◌, ◌<◌, length};
 ghost use Rattle.spec.specs.File.{File};
 ghost use Rattle.spec.specs.Encode.{encode_file};

@@ -1,5 +1,5 @@
 -- The rows told one after another: none, and one row more; the buffers keep their lengths, and the count of those under way stays small.
-use mathlib.Core.Path.{◌≡◌, refl, sym, ◌∙◌, subst}
+use mathlib.Core.Path.{◌≡◌, refl, sym, ap, ◌∙◌, subst}
 use mathlib.Core.List.{List}
 use Prim.Native.Nat.{ℕ, zero, suc, ◌+◌, ◌*◌, ◌<◌, ◌≤◌, ◌^◌}
 use native.Mathlib.Numerals.{add-one}
@@ -23,10 +23,10 @@ lengths rows (suc k) u =
     let h = lengths rows k u in
     (length_over v.result _ _ ∙ h.0, length_over v.work _ _ ∙ h.1)
 
-pub under-small : (rows : List Row) (k : ℕ) (s w : List ℕ) → (tell_rows rows k (told s w 0)).under ≤ k
+pub under_small : (rows : List Row) (k : ℕ) (s w : List ℕ) → (tell_rows rows k (told s w 0)).under ≤ k
 unfolding tell_rows tell_row
-under-small rows zero s w = omega arith
-under-small rows (suc k) s w = let h = under-small rows k s w in omega (arith, h, begun_small (get_or rows k blank_row).stage)
+under_small rows zero s w = omega arith
+under_small rows (suc k) s w = let h = under_small rows k s w in omega (arith, h, begun_small (get_or rows k blank_row).stage)
 
 pub none_told : (rows : List Row) (u : Told) → tell_rows rows 0 u ≡ u
 unfolding tell_rows
@@ -40,14 +40,23 @@ pub told_is : (r : Row) (k : ℕ) (u : Told) (s w : List ℕ) (v : ℕ) → (v �
 unfolding tell_row
 told_is r k u s w v e = (λ j. told (e.1 j) (e.2 j) (u.under + e.0 j))
 
-pub below : (k m n : ℕ) → k < m → m ≤ n → k < n
-below k m n l h = omega arith
+-- a row more
+pub more_told
+    : (rows : List Row) (k : ℕ) (u : Told) {s w : List ℕ} {n : ℕ} (s' w' : List ℕ) (v : ℕ)
+    → told s w n ≡ tell_rows rows k u
+    → (v ≡ begun_number (get_or rows k blank_row).stage) × (s' ≡ with_answer (get_or rows k blank_row) k s) × (w' ≡ with_mark (get_or rows k blank_row) k w)
+    → told s' w' (n + v) ≡ tell_rows rows (k + 1) u
+more_told rows k u {s} {w} {n} s' w' v h e =
+    told_is (get_or rows k blank_row) k (told s w n) s' w' v e
+    ∙ ap (tell_row (get_or rows k blank_row) k) h
+    ∙ one_more rows k u
 
-pub answer-room : (k m n z : ℕ) → k < m → 24 + 8 * m ≤ n → z ≡ n → 32 + 8 * k ≤ z
-answer-room k m n z l h e = omega arith
-
-pub sum_fits : (a k v m : ℕ) → a ≤ k → k < m → v ≤ 1 → m < 2 ^ 64 → a + v < 2 ^ 64
-sum_fits a k v m h l i r = omega arith
-
-pub count_fits : (a k m : ℕ) → a ≤ k → k ≤ m → m < 2 ^ 64 → a < 2 ^ 64
-count_fits a k m h l r = omega arith
+-- at most one of each row is under way
+pub few_told
+    : (rows : List Row) (k : ℕ) (s₀ w₀ : List ℕ) {s w : List ℕ} {n : ℕ} (v : ℕ)
+    → told s w n ≡ tell_rows rows k (told s₀ w₀ 0)
+    → v ≡ begun_number (get_or rows k blank_row).stage
+    → n + v ≤ k + 1
+few_told rows k s₀ w₀ {s} {w} {n} v h e =
+    let same : n ≡ (tell_rows rows k (told s₀ w₀ 0)).under = ap (λ (q : Told). q.under) h in
+    omega (arith, under_small rows k s₀ w₀, begun_small (get_or rows k blank_row).stage)

@@ -1,5 +1,7 @@
 // "The operations under way stand in one lent table, a row each": a lent slice of row structs. The borrow checker covers no function over
 // such a slice, so each is thin and proved by hand: a row is taken out, a covered function does the work, and the row is put back.
+#![tactic(auto)]
+
 ghost use Rattle.std.specs.Prelude.{◌≡◌, ℕ, ◌+◌, ◌*◌, ◌/◌, ◌≤◌, ◌<◌, length, get_or, replicate};
 ghost use Rattle.spec.specs.Job.{turn_size};
 ghost use Rattle.spec.specs.Check.{work_size};

@@ -1,4 +1,6 @@
 // One turn of one operation, on the working memory.
+#![tactic(auto)]
+
 mod codes;
 mod entries;
 mod held;

@@ -1,4 +1,6 @@
 // Kinds and codes in words, each behind a space.
+#![tactic(auto)]
+
 ghost use Rattle.std.specs.Prelude.{◌++◌, ◌+◌, ◌≤◌, length};
 ghost use Rattle.spec.specs.Bytes.{text};
 ghost use Rattle.spec.specs.Job.{kind_of};

@@ -18,7 +18,7 @@ find-used-requires c = (c.requires, omega arith)
 pub slice_bounds-tidy_left-end : goal.slice_bounds-tidy_left-end
 slice_bounds-tidy_left-end c =
     let f = c.find-used in
-    sym (length-take-le f.result f.new.1.1.0 (omega (arith, f.ensures.1, f.auto.1.1.0)))
+    sym (length-take-le f.result f.new.left (omega (arith, f.ensures.1, f.auto.left)))
 
 pub tidy_left-requires : goal.tidy_left-requires
 tidy_left-requires c = (c.requires, c.find-used.ensures.0)

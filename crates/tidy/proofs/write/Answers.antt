@@ -22,7 +22,7 @@ put_directory-requires c =
     let f = c.put_file in (
       c.requires.2.most,
       fills c.requires.0 c.args.left.now c.requires.1 c.args.depth c.requires.2.least,
-      part_size f.new.0 32 (32 + 2 * n.result) (2 * 2 ^ c.args.depth) (omega (arith, n.ensures.0)) (omega (arith, f.auto.0)),
+      part_size f.new.out 32 (32 + 2 * n.result) (2 * 2 ^ c.args.depth) (omega (arith, n.ensures.0)) (omega (arith, f.auto.out)),
     )
 
 pub put_pages-requires : goal.put_pages-requires
@@ -30,20 +30,20 @@ put_pages-requires c =
     let second : Second c.put_file.new.out c.put_directory.new.dir (take 32 c.put_file.new.out ++ (c.put_directory.new.dir ++ drop (32 + 2 * c.entries_at.result - 32) (drop 32 c.put_file.new.out))) = let n = c.entries_at in
     let f = c.put_file in
     let d = c.put_directory in
-    let back = part_back f.new.0 d.new.0 32 (32 + 2 * n.result) d.auto.0 (omega arith) (omega (arith, f.auto.0)) in
+    let back = part_back f.new.out d.new.dir 32 (32 + 2 * n.result) d.auto.dir (omega arith) (omega (arith, f.auto.out)) in
     record { is = back; size = ap length back ∙ length_over _ _ _ } in
     let n = c.entries_at in
     let z = c.file_length-end in
     let f = c.put_file in
     let two = second in
-    (c.requires.0, c.requires.1, part_size _ (32 + 2 * n.result) z.result _ (omega (arith, n.ensures.0, z.ensures.0)) (omega (arith, two.size, f.auto.0)))
+    (c.requires.0, c.requires.1, part_size _ (32 + 2 * n.result) z.result _ (omega (arith, n.ensures.0, z.ensures.0)) (omega (arith, two.size, f.auto.out)))
 
 pub returns : goal.returns
 returns c =
     let second : Second c.put_file.new.out c.put_directory.new.dir (take 32 c.put_file.new.out ++ (c.put_directory.new.dir ++ drop (32 + 2 * c.entries_at.result - 32) (drop 32 c.put_file.new.out))) = let n = c.entries_at in
     let f = c.put_file in
     let d = c.put_directory in
-    let back = part_back f.new.0 d.new.0 32 (32 + 2 * n.result) d.auto.0 (omega arith) (omega (arith, f.auto.0)) in
+    let back = part_back f.new.out d.new.dir 32 (32 + 2 * n.result) d.auto.dir (omega arith) (omega (arith, f.auto.out)) in
     record { is = back; size = ap length back ∙ length_over _ _ _ } in
     let n = c.entries_at in
     let z = c.file_length-end in
@@ -53,7 +53,7 @@ returns c =
     let two = second in
     let is = tidied-length c.requires.0 c.args.left.now c.requires.1 c.args.depth 0 c.requires.2 in
     let third =
-    part_back _ p.new.1.1.1.0 (32 + 2 * n.result) z.result p.auto.1.1.1.0 (omega (arith, n.ensures.0, z.ensures.0)) (omega (arith, two.size, f.auto.0)) in (
+    part_back _ p.new.table (32 + 2 * n.result) z.result p.auto.table (omega (arith, n.ensures.0, z.ensures.0)) (omega (arith, two.size, f.auto.out)) in (
       z.ensures.0 ∙ sym is,
       written c.requires.0 c.args.left.now c.requires.1 c.args.depth c.requires.2 c.args.out.now (32 + 2 * n.result) f.ensures
           (two.is ∙ rw d.ensures) (third ∙ rw p.ensures) (omega (arith, n.ensures.0)),

@@ -49,7 +49,7 @@ loop-k-preserved c =
     let w = (run_of (g - get_or ls l.k 0) (omega arith)).is in (
       omega arith,
       rw w (start-more g ls l.k l.j taken l.invariant.1),
-      p.auto.0 ∙ l.invariant.2,
+      p.auto.dir ∙ l.invariant.2,
       runs_next g ls c.args.dir.now l.k l.j _ taken l.invariant.1 w l.invariant.3 p.ensures,
     )
 

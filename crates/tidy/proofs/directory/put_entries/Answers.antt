@@ -17,7 +17,7 @@ loop-i-preserved c =
     let p = c.put_u16 in
     let l = c.loop-i in
     let a = c.args in
-    (omega arith, p.auto.0 ∙ l.invariant.1, entries_next a.dir.now a.j l.i a.x l.invariant.2 p.ensures)
+    (omega arith, p.auto.s ∙ l.invariant.1, entries_next a.dir.now a.j l.i a.x l.invariant.2 p.ensures)
 
 pub returns : goal.returns
 returns c =

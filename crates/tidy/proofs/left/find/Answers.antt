@@ -8,7 +8,7 @@ count_records-requires c = (c.requires.0, omega arith)
 
 pub depths-requires : goal.depths-requires
 depths-requires c =
-    (c.requires.0.heads.limits, counted_climbs c.requires.0 _ c.count_records.ensures (omega (arith, c.count_records.auto.1.1.0)), omega (arith, c.requires.1))
+    (c.requires.0.heads.limits, counted_climbs c.requires.0 _ c.count_records.ensures (omega (arith, c.count_records.auto.before)), omega (arith, c.requires.1))
 
 pub returns : goal.returns
 returns c = (c.depths.ensures.0 _ c.requires.0 c.count_records.ensures, c.depths.ensures.1)

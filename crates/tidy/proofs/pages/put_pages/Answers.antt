@@ -110,7 +110,7 @@ loop-k-preserved c =
     let w = (run_of (g - get_or ls l.k 0) (omega (arith, c.requires.0.heads.limits.depth))).is in
     let here = page_here c.requires.0 ls c.requires.1 l.k l.j taken l.invariant.1 in
     let back =
-    part_back l.table p.new.1.1.1.1.0 (z.result * l.k) (z.result * l.k + z.result) p.auto.1.1.1.1.0 (omega arith) (omega (arith, s.next taken))
+    part_back l.table p.new.out (z.result * l.k) (z.result * l.k + z.result) p.auto.out (omega arith) (omega (arith, s.next taken))
     in (
       omega arith,
       rw w (start-more g ls l.k l.j taken l.invariant.1),

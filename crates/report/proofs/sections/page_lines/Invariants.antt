@@ -1,0 +1,20 @@
+use mathlib.Core.Path.{◌≡◌, sym}
+use mathlib.Core.List.{map}
+use Prim.Native.Nat.{◌-◌, ◌*◌, ◌≤◌}
+use native.Mathlib.Omega.{arith}
+use Rattle.spec.specs.Bytes.{parts}
+use Rattle.spec.specs.Decode.{page_of}
+use Rattle.spec.specs.Report.{page_lines}
+use Rattle.wire.specs.Wrote.{Wrote}
+use Rattle.wire.specs.WroteLaws.{none, then, same, wider, kept}
+use Rattle.wire.specs.Parts.{length_part}
+use Rattle.text.specs.Sections.{one_more, inside, lent}
+use Rattle.report.proofs.Laws.{page-more}
+use Rattle.report.proofs.sections.page_lines.Given as goal
+
+abbrev pub invariant-loop-i : goal.invariant-loop-i
+invariant-loop-i l =
+    (l.i ≤ l.n) × (l.p ≡ l.size * l.i) × Wrote (230 * l.i) l.initial.out l.at (page_lines 1 (map page_of (parts l.i l.size l.table))) l.out l.end
+
+abbrev pub decreases-loop-i : goal.decreases-loop-i
+decreases-loop-i l = l.n - l.i

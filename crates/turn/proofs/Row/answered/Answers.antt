@@ -1,0 +1,7 @@
+use borrow.Author.Rules.{rules}
+use Rattle.turn.specs.Rows.{answered}
+use Rattle.turn.proofs.Row.answered.Goals as goal
+
+pub returns : goal.returns
+unfolding answered
+returns c = cc

@@ -1,0 +1,5 @@
+use borrow.Author.Rules.{rules}
+use Rattle.turn.proofs.Row.put.Goals as goal
+
+pub returns : goal.returns
+returns c = cc

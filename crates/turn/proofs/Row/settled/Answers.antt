@@ -1,0 +1,5 @@
+use borrow.Author.Rules.{rules}
+use Rattle.turn.proofs.Row.settled.Goals as goal
+
+pub returns : goal.returns
+returns c = rw (c.answered.ensures, c.moved.ensures)

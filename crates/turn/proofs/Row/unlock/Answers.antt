@@ -1,0 +1,5 @@
+use borrow.Author.Rules.{rules}
+use Rattle.turn.proofs.Row.unlock.Goals as goal
+
+pub returns : goal.returns
+returns c = rw (c.moved.ensures, c.set_locks.ensures)
