@@ -58,8 +58,8 @@ module _ {b s : List ℕ} {x : List Row} {w : List ℕ} (a : Accepted b s x w) w
     turns_ask = (heads o, each_takes o first first_shown)
 
     -- the same of a table and a memory that the first calls left so
-    pub first-is : (z : List Row) (u : List ℕ) (r : Row) → z ≡ replicate (length x) r → r ≡ blank_row → u ≡ work₁ → both z u ≡ first
-    first-is z u r ez er eu = λ i. both ((ez ∙ ap (replicate (length x)) er) i) (eu i)
+    pub first_is : (z : List Row) (u : List ℕ) (r : Row) → z ≡ replicate (length x) r → r ≡ blank_row → u ≡ work₁ → both z u ≡ first
+    first_is z u r ez er eu = λ i. both ((ez ∙ ap (replicate (length x)) er) i) (eu i)
 
     pub turns_may
         : (q : Both)

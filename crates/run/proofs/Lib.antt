@@ -4,5 +4,3 @@ pub mod Begins
 pub mod Closing
 pub mod Ends
 pub mod Accepting
-pub mod Headers
-pub mod Lent

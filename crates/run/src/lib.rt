@@ -1,5 +1,7 @@
 // A job is checked, run turn by turn, and its result written. "Nothing lent is written" where it is refused; after a run the lent table and
 // the lent working memory are cleared. The functions over the lent table, or a reader, are thin and proved by hand.
+#![tactic(auto)]
+
 ghost use Rattle.std.specs.Prelude.{◌≡◌, List, ℕ, ◌/◌, ◌≤◌, ◌<◌, length, replicate};
 ghost use Rattle.spec.specs.Bytes.{AreBytes};
 ghost use Rattle.spec.specs.Decode.{header_of};
