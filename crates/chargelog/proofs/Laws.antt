@@ -1,20 +1,14 @@
--- A text that was printed is the one that is meant, and lies within its buffer; and so does the input that was read.
-use mathlib.Core.Path.{◌≡◌, sym, ap, ◌∙◌}
-use mathlib.Core.List.{List}
-use Prim.Native.Nat.{ℕ, ◌≤◌}
-use native.Mathlib.Omega.{arith}
-use lib.ListN.{length, take, drop, length-append}
-use lib.Seq.{length-take-le, take_at}
-use Rattle.spec.specs.Check.{work_size}
-use Rattle.spec.specs.Report.{printed}
-use Rattle.laws.specs.Codec.Longest.{front_decides}
-use Rattle.print.specs.declared.Printed.{Printed}
-use Rattle.print.specs.declared.Printed.TheVariants.{Text, NoRoom}
-use Rattle.print.specs.Printed.{text_size, Stands, lent_here, Prints}
+-- A text that was printed is the one that is meant, and lies within its buffer; and what was read of an input decides what is printed for it.
+use Rattle.std.proofs.Common.{◌≡◌, sym, ap, ◌∙◌, List, ℕ, suc, ◌+◌, ◌≤◌, ◌++◌, arith, length, take, drop, length-append, Option, None, Some, IfSome, Result, Ok, Err, OnOk}
+use Rattle.std.specs.Result.{is_ok}
+use Rattle.std.proofs.Math.Seq.{length-take-le, take_at, take-append-add, take-append-le}
+use borrow.Rule.Slice.PartMut.{put_mid, post_of}
+use Rattle.spec.specs.Check.{Lent, work_size, first_fault}
+use Rattle.spec.specs.Report.{printed, printed_by}
+use Rattle.laws.specs.Codec.Longest.{longest, front_decides}
+use Rattle.print.specs.Printed.{Stands}
 use Rattle.print.specs.Enough.{most_result, enough-printed}
-use Rattle.chargelog.specs.declared.Input.{Input}
-use Rattle.chargelog.specs.declared.Input.TheVariants.{Bytes}
-use Rattle.chargelog.specs.Input.{Within, Says}
+use Rattle.chargelog.specs.Input.{Says, Shows, Answers}
 
 -- a text that stands in a buffer
 shown : {x s t : List ℕ} {n : ℕ} → Stands x s t n → take n t ≡ x
@@ -23,21 +17,39 @@ shown {x} {s} {t} {n} w = ap (take n) w.bytes ∙ take_at x (drop n s) n (sym w.
 count : {x s t : List ℕ} {n : ℕ} → Stands x s t n → n ≤ length t
 count {x} {s} {t} {n} w = omega (arith, w.count, ap length w.bytes ∙ length-append x (drop n s))
 
-module _ (b s t w u o p : List ℕ) (r : Printed) (done : Prints b s t w u o p r) where
-  pub text_says : (n : ℕ) → r ≡ Text n → most_result ≤ length s → work_size ≤ length w → Says b p n
-  text_says n e result work =
-      let q = rw e at done in
-      let text : take n p ≡ printed b = shown q.1 ∙ enough-printed b (lent_here s w) result (omega arith) work in
-      let within = count q.1 in
-      record {
-        within = within;
-        counts = sym (length-take-le n p within);
-        text = text;
-        input = λ whole read. text ∙ ap printed read ∙ front_decides whole;
-      }
+pub text_says :
+    {b o p : List ℕ} {l : Lent} {n : ℕ} → Stands (printed_by (first_fault l b) b) o p n
+    → most_result ≤ l.output → 256 ≤ l.rows → work_size ≤ l.work → Says b p n
+text_says {b} {o} {p} {l} {n} stands result rows work =
+    let text : take n p ≡ printed b = shown stands ∙ enough-printed b l result rows work in
+    let within : n ≤ length p = count stands in
+    record {
+      within = within;
+      counts = sym (length-take-le n p within);
+      text = text;
+      input = λ whole read. text ∙ ap printed read ∙ front_decides whole;
+    }
 
-  pub no_room : r ≡ NoRoom → text_size ≤ length o → ⊥
-  no_room e h = let q = rw e at done in omega (arith, q.0)
+-- a read puts n bytes more behind the first a
+pub take_read :
+    (a k n : ℕ) (s t : List ℕ) → a ≤ length s → n ≤ length t → take (a + n) (put_mid a k s t) ≡ take a s ++ take n t
+take_read a k n s t within fits =
+    let after = post_of a k s in
+    ap (λ m. take (m + n) (take a s ++ (t ++ after))) (sym (length-take-le a s within))
+    ∙ take-append-add (take a s) (t ++ after) n
+    ∙ ap (λ l. take a s ++ l) (take-append-le n t after fits)
 
-pub input_within : (t : List ℕ) (r : Input) (n : ℕ) → Within t r → r ≡ Bytes n → n ≤ length t
-input_within t r n w e = rw e at w
+-- a buffer that has a byte more than the longest job
+pub answers :
+    (known : Option (List ℕ)) (t : List ℕ) (n : ℕ) (old new : Option (List ℕ))
+    → length t ≡ suc longest → IfSome known (λ whole. take n t ≡ take (length t) whole)
+    → Shows (take n t) old new → Answers known old new
+answers None t n old new full first shows = tt
+answers (Some whole) t n old new full first shows = shows whole (first ∙ ap (λ k. take k whole) full)
+
+-- another error says as much
+pub on_ok_kept : {T D E : Type 0} (P : Type 0) (r : Result T D) (s : Result T E) → is_ok s ≡ is_ok r → OnOk r P → OnOk s P
+on_ok_kept P (Ok x) (Ok y) e p = p
+on_ok_kept P (Err x) (Ok y) e p = absurd (cc)
+on_ok_kept P (Ok x) (Err y) e p = tt
+on_ok_kept P (Err x) (Err y) e p = tt

@@ -1,31 +1,51 @@
 // Reads a job from standard input, runs it, and prints answers, log and pages, or the refusal.
-ghost use Rattle.std.specs.Prelude.{◌≤◌, length};
-ghost use Rattle.chargelog.specs.Input.{Within, Says};
+#![tactic(auto)]
+
+ghost use Rattle.std.specs.Prelude.{◌≡◌, ◌≤◌, length, OnOk, Err};
+ghost use Rattle.std.specs.Io.KnownBytes.{Keeps};
+ghost use Rattle.chargelog.specs.Input.{Within, ReadsFirst, Says, Shows, Answers};
 
 use print::Printed;
+use std::env::FillError;
+use std::io::{Read, Write};
+use std::rt::Env;
+use std::{fmt, io};
 
 // What standard input held: this many bytes; or a read failed.
-#[derive(Drop)]
+#[derive(Clone, Copy)]
 enum Input {
     Bytes(usize),
     Failed,
 }
 
+// Why a job has no answer.
+#[derive(Clone, Copy)]
+enum Failure {
+    NotRead,
+    NotWritten,
+}
+
+impl fmt::Display for Failure {
+    fn fmt<W: fmt::Write>(&self, f: &mut fmt::Formatter<W>) -> fmt::Result {
+        match self {
+            Failure::NotRead => f.write_str("standard input cannot be read"),
+            Failure::NotWritten => f.write_str("standard output cannot be written"),
+        }
+    }
+}
+
 // Reads until the buffer is full or the input ends.
-fn read_job(job: &mut [u8]) -> Input
-    ensures { Within job.new result }
+fn read_job<R: Read>(input: &mut R, job: &mut [u8]) -> Input
+    ensures within { Within job.new result }
+    ensures first { ReadsFirst (R.remaining input.old) job.new result }
 {
     let mut n: usize = 0;
     while n < job.len() {
-        let got = libc::read(0, &mut job[n..]);
-        if got < 0 {
-            return Input::Failed;
+        match input.read(&mut job[n..]) {
+            Ok(0) => return Input::Bytes(n),
+            Ok(more) => n += more,
+            Err(_) => return Input::Failed,
         }
-        let more = io::count(got, &job[n..]);
-        if more == 0 {
-            return Input::Bytes(n);
-        }
-        n += more;
     }
     Input::Bytes(n)
 }
@@ -44,33 +64,39 @@ fn text_of(job: &[u8], text: &mut [u8]) -> usize
     }
 }
 
-fn show(job: &[u8]) {
+// Writes what is printed for the job.
+fn show<W: Write>(job: &[u8], output: &mut W) -> io::Result<()>
+    ensures { OnOk result (Shows job.now (W.contents output.old) (W.contents output.new)) }
+{
     let mut text = [0u8; 85089];
     let n = text_of(job, &mut text);
-    if !io::write_all(1, &text[..n]) {
-        io::write_all(2, b"chargelog: standard output cannot be written\n");
-    }
+    output.write_all(&text[..n])
 }
 
-// No job is longer than 53,280 bytes. One byte more already decides every refusal: the length is then not the total (refusal 4, place 28),
-// unless a lower row or a lower place holds of the header, whatever follows. (laws: `Codec/Longest.front_decides`)
-fn print_job() {
+// Writes what is printed for the job that the input holds. No job is longer than 53,280 bytes. One byte more already decides every refusal: the
+// length is then not the total (refusal 4, place 28), unless a lower row or a lower place holds of the header, whatever follows.
+// (laws: `Codec/Longest.front_decides`)
+fn print_job<R: Read, W: Write>(input: &mut R, output: &mut W) -> Result<(), Failure>
+    ensures answers { OnOk result (Answers (R.remaining input.old) (W.contents output.old) (W.contents output.new)) }
+    ensures unread { result ≡ Err Failure.NotRead → Keeps (W.contents output.old) (W.contents output.new) }
+{
     let mut job = [0u8; 53281];
-    let i = read_job(&mut job);
+    let i = read_job(input, &mut job);
     match i {
-        Input::Bytes(n) => show(&job[..n]),
-        Input::Failed => {
-            io::write_all(2, b"chargelog: standard input cannot be read\n");
-        }
+        Input::Bytes(n) => show(&job[..n], output).map_err(|_| Failure::NotWritten),
+        Input::Failed => Err(Failure::NotRead),
     }
 }
 
-// A program of Rattle has no exit status, so what went wrong is said on standard error. It is said there too how the program is used, where it is
-// given an argument: a site may expect to name a file. (The program's own name counts as one.)
-fn main() {
-    if os::arg_count() > 1 {
-        io::write_all(2, b"usage: chargelog < JOB\n");
-    } else {
-        print_job();
+// The program ends with status 0 whatever comes, so what went wrong is said on standard error; where that cannot be written either, nothing is left
+// to say it on. It is said there too how the program is used, where it is given an argument: a site may expect to name a file. (The program's own
+// name is argument 0. How long the argument is, or whether it is text, does not matter, so it is given no room.)
+fn main(rt: HostRuntime) {
+    if !matches!(rt.arg(1, &mut []), Err(FillError::NotPresent)) {
+        let _ = eprintln!(rt; "usage: chargelog < JOB");
+        return;
+    }
+    if let Err(failure) = print_job(&mut rt.stdin(), &mut rt.stdout()) {
+        let _ = eprintln!(rt; "chargelog: {failure}");
     }
 }
