@@ -1,5 +1,5 @@
 // "Turns dealt for the site": a job with operations and no turns is checked, its turns are dealt on the lent table and working memory, and the
-// same job is written with the list. The functions over the lent table are thin and proved by hand.
+// same job is written with the list.
 #![tactic(auto)]
 
 ghost use Rattle.std.specs.Prelude.{◌≡◌, ◌+◌, ◌*◌, ◌≤◌, length, replicate};

@@ -27,7 +27,7 @@ fn table() -> [Row; 256]
     [blank; 256]
 }
 
-// Runs the job over a table of its own. Its parameters are plain, so that its callers are covered.
+// Runs the job over a table of its own.
 fn run_here(job: &[u8], res: &mut [u8], work: &mut [u8]) -> Outcome
     ensures { Settled job.now res.old res.new full_table full_table work.old work.new result }
 {

@@ -1,5 +1,5 @@
-// "A job reader keeps the lent bytes beside its counts, and shows each section as that part of them". The borrow checker covers no function
-// over a struct that holds a reference: each here is thin, takes the reader apart and leaves the work to a function of parts.rt.
+// "A job reader keeps the lent bytes beside its counts, and shows each section as that part of them". Each function here takes the reader apart and
+// leaves the work to a function of parts.rt.
 #![tactic(auto)]
 
 mod parts;

@@ -1,5 +1,5 @@
 // "The list is dealt in rounds, by rising operation number": on the lent table and the working memory of a run, each turn being written into the
-// output behind the job. The functions over the lent table are thin and proved by hand.
+// output behind the job.
 #![tactic(auto)]
 
 ghost use Rattle.std.specs.Prelude.{◌≡◌, false, ℕ, ◌+◌, ◌≤◌, ◌<◌, eqb, length};
@@ -23,7 +23,7 @@ use turn::Row;
 // ---- one operation
 
 // Operation i, whose row is handed in, when t turns are dealt: it gets the next turn, which is written, or is "passed over until the next round".
-// How many turns are dealt then. Covered.
+// How many turns are dealt then.
 fn next_turn(row: Row, i: usize, h: Header, t: usize, out: &mut [u8], work: &[u8]) -> usize
     requires { Limits (counts_of h) × Lockable row work.now × (idles row work.now ≡ false → (t < 65536) × (next_place h t + turn_size ≤ length out.old)) }
     ensures { (result ≡ if (idles row work.now) t (t + 1)) × (out.new ≡ if (idles row work.now) out.old (over out.old (next_place h t) (two i))) }
@@ -35,7 +35,7 @@ fn next_turn(row: Row, i: usize, h: Header, t: usize, out: &mut [u8], work: &[u8
     t + 1
 }
 
-// Its row, when n turns are dealt after it: moved on by turn t, if that was its own. Covered.
+// Its row, when n turns are dealt after it: moved on by turn t, if that was its own.
 fn moved_on(row: Row, job: &[u8], h: Header, i: usize, t: usize, n: usize, work: &mut [u8]) -> Row
     requires { Heads h job.now × (i < h.ops) × ((n ≡ t → ⊥) → Moves (shape_for h) (ops_in (counts_of h) job.now) t i row work.old) }
     ensures { out result work.new ≡ if (eqb n t) (out row work.old) (moved_on (shape_for h) (ops_in (counts_of h) job.now) t i row work.old) }

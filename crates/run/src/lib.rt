@@ -1,5 +1,5 @@
 // A job is checked, run turn by turn, and its result written. "Nothing lent is written" where it is refused; after a run the lent table and
-// the lent working memory are cleared. The functions over the lent table, or a reader, are thin and proved by hand.
+// the lent working memory are cleared.
 #![tactic(auto)]
 
 ghost use Rattle.std.specs.Prelude.{◌≡◌, List, ℕ, ◌/◌, ◌≤◌, ◌<◌, length, replicate};

@@ -1,5 +1,5 @@
-// "The operations under way stand in one lent table, a row each": a lent slice of row structs. The borrow checker covers no function over
-// such a slice, so each is thin and proved by hand: a row is taken out, a covered function does the work, and the row is put back.
+// "The operations under way stand in one lent table, a row each": a lent slice of row structs. A row is taken out, a function over one row does
+// the work, and the row is put back.
 #![tactic(auto)]
 
 ghost use Rattle.std.specs.Prelude.{◌≡◌, ℕ, ◌+◌, ◌*◌, ◌/◌, ◌≤◌, ◌<◌, length, get_or, replicate};
@@ -29,7 +29,7 @@ pub fn fill(rows: &mut [Row], row: Row)
 // ---- turns
 
 // Turn t of operation i, whose row is handed in and comes back moved on. Most turns of a contended job find their operation waiting, or finished:
-// they are told by a look at the row and at one lock. Covered.
+// they are told by a look at the row and at one lock.
 fn moved_on(row: Row, ops: &[u8], i: usize, shape: Shape, t: usize, work: &mut [u8]) -> Row
     requires { Moves shape ops.now t i row work.old }
     ensures { out result work.new ≡ moved_on shape ops.now t i row work.old }
