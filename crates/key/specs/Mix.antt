@@ -1,5 +1,5 @@
 -- FNV-1a of a call's four bytes, byte by byte; and the product of two 32-bit numbers.
-use Rattle.std.specs.Prelude.{◌≡◌, refl, ℕ, ◌+◌, ◌*◌, ◌/◌, ◌%◌, ◌^◌, ◌<◌, ◌≤◌}
+use Rattle.std.specs.Prelude.{◌≡◌, ℕ, ◌+◌, ◌*◌, ◌/◌, ◌%◌, ◌^◌, ◌<◌, ◌≤◌}
 use Rattle.std.proofs.Common.{mul-le-mul, arith}
 use Rattle.spec.specs.Bytes.{two, four}
 use Rattle.spec.specs.Key.{mixed, hashed, pseudo_key}

@@ -1,1 +1,3 @@
+#![tactic(auto)]
+
 // Theorems about the definitions of `spec`: see specs/. Nothing here runs.

@@ -1,5 +1,6 @@
 // The values that code and definitions share, so that no translation between the two has to be believed.
 // Types only: nothing here runs. What each case and field stands for is said in specs/.
+#![tactic(auto)]
 
 // "kind (1 search, 2 insert, 3 delete)": the numbers are tied to the cases in specs/Job.antt.
 #[derive(Clone, Copy)]

@@ -1,7 +1,6 @@
 -- An operation that would only wait, or is finished: a turn leaves it and the memory as they are.
-use Rattle.std.specs.Prelude.{ℕ, ◌≡◌, List, true, false, eqb}
+use Rattle.std.specs.Prelude.{ℕ, ◌≡◌, List, true}
 use Rattle.std.proofs.Math.Path.{refl}
-use Rattle.std.proofs.Common.{sym, ap, ◌∙◌}
 use Rattle.std.proofs.lemmas.Bool.{false≢true, not-true}
 use Rattle.spec.specs.declared.Op.{Op}
 use Rattle.spec.specs.declared.Stage.{Stage}
@@ -10,8 +9,8 @@ use Rattle.laws.specs.Tools.{if-false}
 use Rattle.memory.specs.declared.Shape.{Shape}
 use Rattle.turn.specs.declared.Row.{Row}
 use Rattle.turn.specs.Rows.{stage_in}
-use Rattle.turn.specs.Steps.{Out, out, mem_lock, mem_turn, mem_step, idle_at, idles}
-use Rattle.turn.specs.Safe.{Safe, SafeAt, Lockable}
+use Rattle.turn.specs.Steps.{out, mem_lock, mem_turn, mem_step, idle_at, idles}
+use Rattle.turn.specs.Safe.{Safe, Lockable}
 
 module _ (sh : Shape) (op : Op) (t : ℕ) (r : Row) (w : List ℕ) where
   idle_at_lem : (to : Stage) → idle_at w to ≡ true → mem_turn sh op t r w to ≡ out r w

@@ -1,5 +1,4 @@
 use native.Mathlib.Omega.{arith}
-use borrow.Author.Rules.{rules}
 use Rattle.spec.specs.Tariff.{due}
 use Rattle.band.specs.Largest.{product_most, largest}
 use Rattle.band.proofs.due.Goals as goal

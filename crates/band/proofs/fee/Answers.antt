@@ -1,4 +1,3 @@
-use native.Mathlib.Omega.{arith}
 use Rattle.spec.specs.Tariff.{band_of}
 use Rattle.band.proofs.fee.Goals as goal
 

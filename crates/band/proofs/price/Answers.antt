@@ -1,6 +1,5 @@
 use mathlib.Core.Path.{◌∙◌}
 use native.Mathlib.Omega.{arith}
-use borrow.Author.Rules.{rules}
 use Rattle.spec.specs.Tariff.{price_at, hour_of}
 use Rattle.band.proofs.Prices.{price_of}
 use Rattle.band.proofs.price.Goals as goal

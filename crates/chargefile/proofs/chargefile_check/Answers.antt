@@ -1,5 +1,4 @@
 use mathlib.Core.Path.{ap, ◌∙◌}
-use borrow.Author.Rules.{rules}
 use Rattle.chargefile.specs.Handed.{handed, outcome_of}
 use Rattle.chargefile.proofs.Laws.{check_called}
 use Rattle.chargefile.proofs.chargefile_check.Goals as goal

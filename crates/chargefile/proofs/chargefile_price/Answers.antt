@@ -1,4 +1,3 @@
-use borrow.Author.Rules.{rules}
 use Rattle.chargefile.proofs.Laws.{price_called}
 use Rattle.chargefile.proofs.chargefile_price.Goals as goal
 

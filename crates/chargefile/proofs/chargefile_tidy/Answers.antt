@@ -1,4 +1,3 @@
-use borrow.Author.Rules.{rules}
 use Rattle.chargefile.proofs.Laws.{tidy_called}
 use Rattle.chargefile.proofs.chargefile_tidy.Goals as goal
 

@@ -1,5 +1,4 @@
 use mathlib.Core.Path.{sym, ap}
-use borrow.Author.Rules.{rules}
 use Rattle.chargefile.specs.Handed.{handed}
 use Rattle.chargefile.proofs.handed.Goals as goal
 

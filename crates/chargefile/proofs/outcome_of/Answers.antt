@@ -1,5 +1,4 @@
 use mathlib.Core.Path.{sym, ap}
-use borrow.Author.Rules.{rules}
 use Rattle.chargefile.specs.Handed.{outcome_of}
 use Rattle.chargefile.proofs.outcome_of.Goals as goal
 

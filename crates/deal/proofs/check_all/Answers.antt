@@ -13,7 +13,6 @@ use Rattle.header.specs.declared.Header.{Header}
 use Rattle.header.specs.Counts.{counts_of}
 use Rattle.laws.specs.Codec.Answer.{accepted, refused}
 use Rattle.deal.proofs.Ends.{by_job, by_turns, by_lent, by_none}
-use borrow.Author.Rules.{rules}
 use Rattle.deal.proofs.check_all.Goals as goal
 
 -- the turns that the header tells are those of the job

@@ -6,7 +6,6 @@ use lib.Seq.{take-length}
 use Rattle.spec.specs.Bytes.{two, four}
 use Rattle.spec.specs.Job.{turn_count_at, total_at}
 use Rattle.wire.specs.Over.{over}
-use borrow.Author.Rules.{rules}
 use Rattle.deal.proofs.close.Goals as goal
 
 -- the three writes, one after another: b is the whole job

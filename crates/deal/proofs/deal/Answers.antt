@@ -1,5 +1,5 @@
 -- `deal::deal` meets its contract: the check decides, and where nothing is refused turns are dealt.
-use Rattle.std.proofs.Common.{◌≡◌, ◌∙◌, sym}
+use Rattle.std.proofs.Common.{◌∙◌, sym}
 use Rattle.run.proofs.Ends.{accepted-none}
 use Rattle.deal.specs.Call.{Accepted}
 use Rattle.deal.proofs.Ends.{dealt, refused}

@@ -1,8 +1,8 @@
 -- `deal::deal_accepted` meets its contract: call by call, as proofs/Accepting says.
-use Rattle.std.proofs.Common.{◌≡◌, ◌∙◌, ap, sym, length, replicate}
+use Rattle.std.proofs.Common.{◌∙◌, ap, length, replicate}
 use Rattle.spec.specs.Deal.{max_dealt}
 use Rattle.rounds.specs.OnTable.{dealing, rounds_on}
-use Rattle.deal.proofs.Accepting.{first, first_is, read_asks, deals}
+use Rattle.deal.proofs.Accepting.{first_is, read_asks, deals}
 use Rattle.deal.proofs.deal_accepted.Goals as goal
 
 pub read-h-requires : goal.read-h-requires

@@ -1,6 +1,5 @@
 use mathlib.Core.Path.{◌≡◌}
 use mathlib.Core.Option.{none}
-use native.Mathlib.Omega.{arith}
 use Rattle.spec.specs.Check.{short, wrong_version, job_fault}
 use Rattle.job.proofs.Refused.{passed, row_hit, row_next, long-enough}
 use Rattle.job.proofs.check.Goals as goal

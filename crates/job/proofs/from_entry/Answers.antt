@@ -1,6 +1,5 @@
 use mathlib.Core.Path.{◌≡◌, sym, ◌∙◌}
 use mathlib.Core.Option.{none}
-use native.Mathlib.Omega.{arith}
 use Rattle.spec.specs.Check.{wrong_entry, wrong_page}
 use Rattle.laws.specs.Codec.Answer.{accepted}
 use Rattle.job.proofs.Refused.{passed, told, untold, row_hit, row_next}

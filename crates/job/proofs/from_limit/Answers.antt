@@ -1,6 +1,5 @@
 use mathlib.Core.Path.{◌≡◌}
 use mathlib.Core.Option.{none}
-use native.Mathlib.Omega.{arith}
 use Rattle.spec.specs.Check.{over_limit, wrong_offset}
 use Rattle.laws.specs.Codec.Rows.{limits_said}
 use Rattle.job.proofs.Refused.{passed, row_hit, row_next, long-enough, heads}

@@ -1,6 +1,5 @@
 use mathlib.Core.Path.{◌≡◌}
 use mathlib.Core.Option.{none}
-use native.Mathlib.Omega.{arith}
 use Rattle.spec.specs.Check.{wrong_op, wrong_turn}
 use Rattle.job.proofs.Refused.{passed, row_hit, row_next, rows_end}
 use Rattle.job.proofs.from_op.Goals as goal

@@ -1,6 +1,5 @@
 use mathlib.Core.Path.{◌≡◌}
 use mathlib.Core.Option.{none}
-use native.Mathlib.Omega.{arith}
 use Rattle.spec.specs.Check.{wrong_owner, wrong_record}
 use Rattle.job.proofs.Refused.{passed, row_hit, row_next}
 use Rattle.job.proofs.from_owner.Goals as goal

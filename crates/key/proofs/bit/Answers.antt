@@ -1,6 +1,5 @@
 -- `key::bit` meets its contract: the last of the first d + 1 bits.
 use native.Mathlib.Numerals.{add-one}
-use borrow.Author.Rules.{rules}
 use Rattle.key.proofs.bit.Goals as goal
 
 pub returns : goal.returns

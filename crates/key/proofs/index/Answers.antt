@@ -1,6 +1,5 @@
 -- `key::index` meets its contract: the first bits of the call's pseudo key.
 use Rattle.spec.specs.Key.{index}
-use borrow.Author.Rules.{rules}
 use Rattle.key.proofs.index.Goals as goal
 
 pub returns : goal.returns

@@ -1,6 +1,5 @@
 -- `key::mix` meets its contract.
 use Rattle.spec.specs.Key.{mixed}
-use borrow.Author.Rules.{rules}
 use Rattle.key.proofs.mix.Goals as goal
 
 pub returns : goal.returns

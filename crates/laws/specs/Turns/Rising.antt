@@ -15,7 +15,7 @@ use Rattle.spec.specs.declared.Stage.TheVariants.{Split}
 use Rattle.spec.specs.File.{File, zero_page, page_at, entry_at}
 use Rattle.spec.specs.Job.{Job, no_op}
 use Rattle.spec.specs.State.{Change, State, PageWrite, EntryWrite, Move}
-use Rattle.spec.specs.Turn.{changed_at, turn}
+use Rattle.spec.specs.Turn.{changed_at}
 use Rattle.spec.specs.Run.{table_after, directory_after, changes_after, file_after, row_of, stage_of, tick, act, step, start}
 use Rattle.spec.specs.Proper.{Fit, FileOk}
 use Rattle.spec.specs.Claims.{state_at}

@@ -1,11 +1,8 @@
-use mathlib.Core.Path.{refl}
-use native.Mathlib.Omega.{arith}
 use Rattle.spec.specs.Bytes.{word, text}
 use Rattle.spec.specs.Report.{decimal, at_line}
 use Rattle.wire.specs.WroteLaws.{then}
 use Rattle.text.specs.Chain.{also}
 use Rattle.spec.specs.Result.{line_of}
-use borrow.Author.Rules.{rules}
 use Rattle.lines.proofs.at_line.Goals as goal
 
 pub returns : goal.returns

@@ -1,11 +1,10 @@
 use Rattle.lines.proofs.Laws.{job_said}
-use mathlib.Core.Path.{refl, sym}
+use mathlib.Core.Path.{sym}
 use native.Mathlib.Omega.{arith}
 use Rattle.spec.specs.Bytes.{byte, word, text}
 use Rattle.spec.specs.Report.{decimal}
 use Rattle.wire.specs.WroteLaws.{then, same}
 use Rattle.text.specs.Chain.{also, room}
-use borrow.Author.Rules.{rules}
 use Rattle.lines.proofs.job_line.Goals as goal
 
 pub put_bytes-requires : goal.put_bytes-requires

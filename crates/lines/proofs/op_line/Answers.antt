@@ -1,12 +1,11 @@
-use mathlib.Core.Path.{refl, sym}
+use mathlib.Core.Path.{sym}
 use native.Mathlib.Omega.{arith}
 use Rattle.spec.specs.Bytes.{byte, word, long, text}
 use Rattle.spec.specs.Job.{kind_of}
 use Rattle.spec.specs.Report.{decimal, kind_word, code_word}
-use Rattle.wire.specs.WroteLaws.{then, same, kept}
+use Rattle.wire.specs.WroteLaws.{then, same}
 use Rattle.text.specs.Chain.{also, room}
 use Rattle.lines.proofs.Laws.{op_said}
-use borrow.Author.Rules.{rules}
 use Rattle.lines.proofs.op_line.Goals as goal
 
 pub put_bytes-requires : goal.put_bytes-requires

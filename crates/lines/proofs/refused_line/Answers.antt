@@ -1,9 +1,6 @@
-use mathlib.Core.Path.{refl}
-use native.Mathlib.Omega.{arith}
 use Rattle.spec.specs.Bytes.{text}
 use Rattle.spec.specs.Report.{refused_line}
 use Rattle.wire.specs.WroteLaws.{then}
-use borrow.Author.Rules.{rules}
 use Rattle.lines.proofs.refused_line.Goals as goal
 
 pub returns : goal.returns

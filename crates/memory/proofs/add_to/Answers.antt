@@ -2,7 +2,6 @@ use native.Mathlib.Omega.{arith}
 use Rattle.spec.specs.Split.{added}
 use Rattle.memory.specs.Places.{part_count, part_room, part_sound}
 use Rattle.memory.specs.Lent.{lent, rewritten}
-use borrow.Author.Rules.{rules}
 use Rattle.memory.proofs.add_to.Goals as goal
 
 pub add-requires : goal.add-requires

@@ -1,7 +1,6 @@
 use mathlib.Core.Path.{◌∙◌}
 use lib.ListN.{length, replicate, length-replicate}
 use Rattle.wire.specs.OverLaws.{over_whole}
-use borrow.Author.Rules.{rules}
 use Rattle.memory.proofs.clear_all.Goals as goal
 
 pub returns : goal.returns

@@ -1,7 +1,6 @@
 use native.Mathlib.Omega.{arith}
 use Rattle.memory.specs.Memory.{part_in}
 use Rattle.memory.specs.Places.{place_behind}
-use borrow.Author.Rules.{rules}
 use Rattle.memory.proofs.copy_page.Goals as goal
 
 pub copy_up-requires : goal.copy_up-requires

@@ -1,16 +1,7 @@
-use mathlib.Core.Path.{◌≡◌, refl, sym, ap, ◌∙◌}
-use mathlib.Core.Logic.{inl}
-use mathlib.Core.List.{List}
-use Prim.Native.Nat.{ℕ, ◌+◌, ◌-◌, ◌≤◌}
-use native.Mathlib.Omega.{arith}
-use lib.ListN.{length, get_or, take, drop, length-set}
-use lib.Seq.{take_all}
-use Rattle.spec.specs.Bytes.{byte}
-use Rattle.laws.specs.Codec.Parts.{byte_in}
+use mathlib.Core.Path.{◌≡◌}
+use Prim.Native.Nat.{◌-◌, ◌≤◌}
+use lib.ListN.{length, take, drop}
 use Rattle.wire.specs.Over.{over}
-use Rattle.wire.specs.OverLaws.{over_none, over_next}
-use Rattle.wire.specs.Reads.{byte_over_other}
-use Rattle.wire.specs.Parts.{length_part}
 use Rattle.memory.proofs.copy_up.Given as goal
 
 abbrev pub invariant-loop-i : goal.invariant-loop-i

@@ -1,5 +1,4 @@
 use Rattle.memory.specs.Memory.{lock_in}
-use borrow.Author.Rules.{rules}
 use Rattle.memory.proofs.is_locked.Goals as goal
 
 pub returns : goal.returns

@@ -4,7 +4,6 @@ use Prim.Native.Nat.{ℕ}
 use native.Mathlib.Omega.{arith}
 use lib.ListN.{length, take, drop}
 use lib.Seq.{take-length}
-use borrow.Author.Rules.{rules}
 use Rattle.wire.specs.Over.{over}
 use Rattle.memory.specs.Memory.{place_of, with_used, with_locks}
 use Rattle.memory.specs.Load.{loaded}

@@ -1,5 +1,4 @@
 use Rattle.memory.specs.Memory.{page_in}
-use borrow.Author.Rules.{rules}
 use Rattle.memory.proofs.page_pattern.Goals as goal
 
 pub returns : goal.returns

@@ -1,5 +1,4 @@
 use mathlib.Core.Path.{refl, sym}
-use borrow.Author.Rules.{rules}
 use Rattle.memory.specs.Places.{part_count, part_length}
 use Rattle.memory.specs.Lent.{lent}
 use Rattle.memory.proofs.part.Goals as goal

@@ -1,7 +1,6 @@
 use native.Mathlib.Omega.{arith}
 use Rattle.memory.specs.Memory.{place_of}
 use Rattle.memory.specs.Places.{pages-fit}
-use borrow.Author.Rules.{rules}
 use Rattle.memory.proofs.place.Goals as goal
 
 pub overflow_mul-result-2 : goal.overflow_mul-result-2

@@ -1,7 +1,6 @@
 use Rattle.spec.specs.Turn.{cleared}
 use Rattle.memory.specs.Places.{part_sound}
 use Rattle.memory.specs.Lent.{lent, rewritten}
-use borrow.Author.Rules.{rules}
 use Rattle.memory.proofs.remove_from.Goals as goal
 
 pub remove-requires : goal.remove-requires

@@ -7,7 +7,6 @@ use native.Mathlib.Omega.{arith}
 use Rattle.memory.specs.Load.{saved}
 use Rattle.memory.specs.Places.{pages_end}
 use Rattle.wire.specs.OverLaws.{over-over}
-use borrow.Author.Rules.{rules}
 use Rattle.memory.proofs.save_file.Goals as goal
 
 pub copy-requires-2 : goal.copy-requires-2

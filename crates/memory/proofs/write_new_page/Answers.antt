@@ -6,7 +6,6 @@ use Rattle.spec.specs.Split.{grow}
 use Rattle.memory.specs.Memory.{page_in}
 use Rattle.memory.specs.Places.{part_room, part_sound}
 use Rattle.memory.specs.Lent.{page-before, lent_copy, rewritten_copy}
-use borrow.Author.Rules.{rules}
 use Rattle.memory.proofs.write_new_page.Goals as goal
 
 pub write_new-requires : goal.write_new-requires

@@ -4,7 +4,6 @@ use Rattle.spec.specs.Split.{grow}
 use Rattle.memory.specs.Memory.{page_in}
 use Rattle.memory.specs.Places.{part_room, part_sound}
 use Rattle.memory.specs.Lent.{lent, rewritten}
-use borrow.Author.Rules.{rules}
 use Rattle.memory.proofs.write_old_page.Goals as goal
 
 pub write_old-requires : goal.write_old-requires

@@ -1,7 +1,6 @@
 -- `page::add` meets its contract: one record in its place among the page's own.
 use native.Mathlib.Omega.{arith}
 use Rattle.page.specs.ImageLaws.{added_image}
-use borrow.Author.Rules.{rules}
 use Rattle.page.proofs.add.Goals as goal
 
 pub returns : goal.returns

@@ -1,5 +1,4 @@
 -- `page::close` meets its contract: zeros, then the head.
-use mathlib.Core.Path.{◌∙◌}
 use native.Mathlib.Omega.{arith}
 use lib.ListN.{length-set}
 use Rattle.page.specs.Image.{closed}

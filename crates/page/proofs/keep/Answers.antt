@@ -1,15 +1,13 @@
 -- `page::keep` meets its contract: of the first j records those that pass stand at the front; a record not read yet is as it was.
 use mathlib.Core.Path.{◌≡◌, refl, ◌∙◌}
 use mathlib.Core.Bool.{true, false}
-use Prim.Native.Nat.{◌-◌, ◌≤◌}
 use native.Mathlib.Omega.{arith}
-use lib.ListN.{length}
 use Rattle.spec.specs.Bytes.{byte}
 use Rattle.spec.specs.Job.{page_size}
 use Rattle.spec.specs.Encode.{record_bytes}
 use Rattle.wire.specs.Over.{over}
 use Rattle.page.specs.View.{record_at}
-use Rattle.page.specs.Keep.{passes_of, Kept}
+use Rattle.page.specs.Keep.{passes_of}
 use Rattle.page.specs.KeepLaws.{kept-start, kept_behind, kept-skip, kept-take}
 use Rattle.page.proofs.keep.Goals as goal
 

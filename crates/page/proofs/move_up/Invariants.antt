@@ -1,10 +1,8 @@
 -- `page::move_up` meets its contract: the records from number j on are written one higher, and those before are as they were.
-use mathlib.Core.Path.{◌≡◌, refl, sym, ◌∙◌}
-use Prim.Native.Nat.{◌+◌, ◌-◌, ◌≤◌}
-use native.Mathlib.Omega.{arith}
+use mathlib.Core.Path.{◌≡◌}
+use Prim.Native.Nat.{◌≤◌}
 use lib.ListN.{length}
-use Rattle.page.specs.View.{record_at}
-use Rattle.page.specs.PutLaws.{up, up_none, up_before, up_more}
+use Rattle.page.specs.PutLaws.{up}
 use Rattle.page.proofs.move_up.Given as goal
 
 abbrev pub invariant-loop-j : goal.invariant-loop-j

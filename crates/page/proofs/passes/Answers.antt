@@ -1,7 +1,6 @@
 -- `page::passes` meets its contract: by cases of the test.
 use Rattle.spec.specs.File.{is_not, has_index}
 use Rattle.page.specs.Keep.{passes_of}
-use borrow.Author.Rules.{rules}
 use Rattle.page.proofs.passes.Goals as goal
 
 pub index-requires : goal.index-requires

@@ -1,10 +1,9 @@
 -- `page::place_of` meets its contract: i records are not higher, and the place is i behind its place among those that are left.
-use mathlib.Core.Path.{◌≡◌, sym, ap, ◌∙◌}
-use Prim.Native.Nat.{◌+◌, ◌-◌, ◌<◌, ◌≤◌}
+use mathlib.Core.Path.{sym, ap, ◌∙◌}
+use Prim.Native.Nat.{◌+◌, ◌-◌, ◌<◌}
 use native.Mathlib.Omega.{arith}
 use native.Mathlib.Nat.{sub-zero}
 use Rattle.page.specs.View.{record_at, records_from, left_more, left_none}
-use Rattle.page.specs.Put.{place_in}
 use Rattle.page.specs.PutLaws.{place_none, place_here, place_later}
 use Rattle.page.proofs.place_of.Goals as goal
 

@@ -1,7 +1,6 @@
 -- `page::put_in` meets its contract: the record goes in front of those that have moved up.
 use mathlib.Core.Path.{◌∙◌}
 use native.Mathlib.Omega.{arith}
-use borrow.Author.Rules.{rules}
 use Rattle.spec.specs.Bytes.{byte}
 use Rattle.page.specs.PutLaws.{put_bytes}
 use Rattle.page.proofs.put_in.Goals as goal

@@ -3,7 +3,6 @@ use mathlib.Core.Path.{◌≡◌}
 use Prim.Native.Nat.{◌+◌, ◌*◌}
 use native.Mathlib.Omega.{arith}
 use Rattle.page.specs.ImageLaws.{over_record}
-use borrow.Author.Rules.{rules}
 use Rattle.page.proofs.put_rec.Goals as goal
 
 pub returns : goal.returns

@@ -4,7 +4,6 @@ use Rattle.spec.specs.File.{without}
 use Rattle.spec.specs.Turn.{cleared}
 use Rattle.page.specs.Keep.{passes_of}
 use Rattle.page.specs.KeepLaws.{kept-few, kept-length, kept_image}
-use borrow.Author.Rules.{rules}
 use Rattle.page.proofs.remove.Goals as goal
 
 pub close-requires : goal.close-requires

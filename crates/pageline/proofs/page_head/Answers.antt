@@ -1,10 +1,7 @@
-use mathlib.Core.Path.{refl}
-use native.Mathlib.Omega.{arith}
 use Rattle.spec.specs.Bytes.{byte, word, text}
 use Rattle.spec.specs.Report.{decimal}
 use Rattle.wire.specs.WroteLaws.{then}
 use Rattle.text.specs.Chain.{also}
-use borrow.Author.Rules.{rules}
 use Rattle.pageline.proofs.page_head.Goals as goal
 
 pub returns : goal.returns

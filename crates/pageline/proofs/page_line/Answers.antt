@@ -1,4 +1,3 @@
-use mathlib.Core.Path.{refl}
 use native.Mathlib.Omega.{arith}
 use lib.ListN.{length-drop}
 use Rattle.spec.specs.Bytes.{byte, text}
@@ -7,7 +6,6 @@ use Rattle.spec.specs.Report.{page_line}
 use Rattle.wire.specs.WroteLaws.{then, wider, kept}
 use Rattle.text.specs.Sections.{lent_rest}
 use Rattle.text.specs.Chain.{room}
-use borrow.Author.Rules.{rules}
 use Rattle.pageline.proofs.page_line.Goals as goal
 
 pub record_words-end-requires : goal.record_words-end-requires

@@ -1,10 +1,7 @@
-use mathlib.Core.Path.{refl}
-use native.Mathlib.Omega.{arith}
 use Rattle.spec.specs.Bytes.{long, text}
 use Rattle.spec.specs.Decode.{record_of}
 use Rattle.spec.specs.Report.{decimal, record_word}
 use Rattle.text.specs.Chain.{also}
-use borrow.Author.Rules.{rules}
 use Rattle.pageline.proofs.record_word.Goals as goal
 
 pub returns : goal.returns

@@ -1,14 +1,12 @@
 use mathlib.Core.Path.{◌≡◌, sym}
 use Rattle.wire.specs.Parts.{length_part}
 use Rattle.text.specs.Sections.{lent, each_more}
-use mathlib.Core.List.{map}
-use Prim.Native.Nat.{ℕ, ◌-◌, ◌*◌, ◌≤◌}
+use Prim.Native.Nat.{ℕ, ◌*◌}
 use native.Mathlib.Omega.{arith}
 use Rattle.spec.specs.Basics.{each}
 use Rattle.spec.specs.Bytes.{parts}
 use Rattle.spec.specs.Decode.{record_of}
 use Rattle.spec.specs.Report.{record_word}
-use Rattle.wire.specs.Wrote.{Wrote}
 use Rattle.wire.specs.WroteLaws.{none, then, same, wider, kept}
 use Rattle.pageline.proofs.record_words.Goals as goal
 

@@ -1,15 +1,10 @@
-use mathlib.Core.Path.{◌≡◌, sym}
-use Rattle.wire.specs.Parts.{length_part}
-use Rattle.text.specs.Sections.{lent, each_more}
 use mathlib.Core.List.{map}
-use Prim.Native.Nat.{ℕ, ◌-◌, ◌*◌, ◌≤◌}
-use native.Mathlib.Omega.{arith}
+use Prim.Native.Nat.{◌-◌, ◌*◌, ◌≤◌}
 use Rattle.spec.specs.Basics.{each}
 use Rattle.spec.specs.Bytes.{parts}
 use Rattle.spec.specs.Decode.{record_of}
 use Rattle.spec.specs.Report.{record_word}
 use Rattle.wire.specs.Wrote.{Wrote}
-use Rattle.wire.specs.WroteLaws.{none, then, same, wider, kept}
 use Rattle.pageline.proofs.record_words.Given as goal
 
 abbrev pub invariant-loop-i : goal.invariant-loop-i

@@ -1,6 +1,6 @@
 -- `pieces::least_shared` meets its contract: the least of all is the least so far or the least among the records that are left.
 use mathlib.Core.Path.{◌≡◌, sym, ◌∙◌}
-use Prim.Native.Nat.{◌+◌, ◌-◌, ◌≤◌, min}
+use Prim.Native.Nat.{◌+◌, ◌-◌, min}
 use native.Mathlib.Omega.{arith}
 use Rattle.spec.specs.Key.{pseudo_key, shared}
 use Rattle.spec.specs.Split.{least_shared}

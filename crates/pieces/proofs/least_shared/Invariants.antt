@@ -1,12 +1,9 @@
 -- `pieces::least_shared` meets its contract: the least of all is the least so far or the least among the records that are left.
-use mathlib.Core.Path.{◌≡◌, sym, ◌∙◌}
-use Prim.Native.Nat.{◌+◌, ◌-◌, ◌≤◌, min}
-use native.Mathlib.Omega.{arith}
-use Rattle.spec.specs.Key.{pseudo_key, shared}
+use mathlib.Core.Path.{◌≡◌}
+use Prim.Native.Nat.{◌-◌, ◌≤◌, min}
 use Rattle.spec.specs.Split.{least_shared}
 use Rattle.spec.specs.Decode.{page_of}
-use Rattle.page.specs.View.{record_at, records_from, left_all, left_more, left_none}
-use Rattle.pieces.specs.Least.{least_start, least-turn, least_end}
+use Rattle.page.specs.View.{records_from}
 use Rattle.pieces.proofs.least_shared.Given as goal
 
 abbrev pub invariant-loop-i : goal.invariant-loop-i

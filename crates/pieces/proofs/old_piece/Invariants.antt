@@ -1,13 +1,7 @@
 -- `pieces::old_piece` meets its contract: the piece is the piece at depth d.
-use mathlib.Core.Path.{◌≡◌, sym, ap, ◌∙◌}
-use mathlib.Core.Bool.{true, false}
-use Prim.Native.Nat.{ℕ, ◌+◌, ◌-◌, ◌≤◌}
-use native.Mathlib.Omega.{arith}
-use lib.Pow.{pow_mono}
-use Rattle.spec.specs.Key.{bit}
-use Rattle.laws.specs.Key.{bits_of, bit_of}
-use Rattle.pieces.specs.Piece.{own_piece, kept_piece}
-use Rattle.pieces.specs.PieceLaws.{kept_one, kept-zero, kept_own, side_zero}
+use mathlib.Core.Path.{◌≡◌}
+use Prim.Native.Nat.{◌-◌, ◌≤◌}
+use Rattle.pieces.specs.Piece.{kept_piece}
 use Rattle.pieces.proofs.old_piece.Given as goal
 
 abbrev pub invariant-loop-d : goal.invariant-loop-d

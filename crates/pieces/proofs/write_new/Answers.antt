@@ -9,7 +9,6 @@ use Rattle.spec.specs.Split.{split_count}
 use Rattle.page.specs.Room.{room}
 use Rattle.pieces.specs.Piece.{new_piece, cut}
 use Rattle.pieces.specs.Parts.{split_deep, grow_new, new_fits}
-use borrow.Author.Rules.{rules}
 use Rattle.pieces.proofs.write_new.Goals as goal
 
 pub new_piece-requires : goal.new_piece-requires

@@ -8,7 +8,6 @@ use Rattle.spec.specs.Split.{split_count}
 use Rattle.page.specs.Room.{room}
 use Rattle.pieces.specs.Piece.{kept_piece, cut}
 use Rattle.pieces.specs.Parts.{split_deep, grow-old, old-fits}
-use borrow.Author.Rules.{rules}
 use Rattle.pieces.proofs.write_old.Goals as goal
 
 pub old_piece-requires : goal.old_piece-requires

@@ -9,7 +9,6 @@ use Rattle.page.specs.Room.{room}
 use Rattle.page.specs.Keep.{passes_of}
 use Rattle.page.specs.KeepLaws.{kept-few, kept-length, kept_all, kept_image, kept_image_more}
 use Rattle.pieces.specs.Piece.{cut}
-use borrow.Author.Rules.{rules}
 use Rattle.pieces.proofs.write_piece.Goals as goal
 
 pub put_in-requires : goal.put_in-requires

@@ -3,7 +3,6 @@ use native.Mathlib.Omega.{arith}
 use lib.Seq.{length-take-le}
 use Rattle.laws.specs.Codec.AsBytes.{are_bytes}
 use Rattle.print.proofs.Laws.{ran-fits, ran_sound, ran-printed, refused-printed}
-use borrow.Author.Rules.{rules}
 use Rattle.print.proofs.print.Goals as goal
 
 pub slice_bounds-report-end : goal.slice_bounds-report-end

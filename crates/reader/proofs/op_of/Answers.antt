@@ -1,5 +1,4 @@
 use Rattle.spec.specs.Decode.{op_of}
-use native.Mathlib.Omega.{arith}
 use Rattle.reader.proofs.op_of.Goals as goal
 
 pub returns : goal.returns

@@ -1,4 +1,3 @@
-use borrow.Author.Rules.{rules}
 use Rattle.reader.specs.Parts.{turn_at}
 use Rattle.reader.proofs.turn_at.Goals as goal
 

@@ -2,7 +2,6 @@ use mathlib.Core.Path.{sym, ◌∙◌}
 use native.Mathlib.Omega.{arith}
 use Rattle.wire.specs.WroteLaws.{then, same, wider}
 use Rattle.report.proofs.Reading.{charge-lent, report-none, report-some}
-use borrow.Author.Rules.{rules}
 use Rattle.report.proofs.report.Goals as goal
 
 pub returns-then-file-eq0 : goal.returns-then-file-eq0

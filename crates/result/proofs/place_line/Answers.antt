@@ -1,7 +1,7 @@
 use mathlib.Core.Path.{◌≡◌, refl, ◌∙◌}
 use Prim.Native.Nat.{◌+◌, ◌-◌, ◌*◌}
 use native.Mathlib.Omega.{arith}
-use Rattle.result.proofs.Moving.{Moving, start, step, end_behind, end_first}
+use Rattle.result.proofs.Moving.{start, step, end_behind, end_first}
 use Rattle.result.proofs.place_line.Goals as goal
 
 pub loop-j-init : goal.loop-j-init

@@ -1,7 +1,4 @@
-use mathlib.Core.Path.{◌≡◌, refl, ◌∙◌}
-use Prim.Native.Nat.{◌+◌, ◌-◌, ◌*◌}
-use native.Mathlib.Omega.{arith}
-use Rattle.result.proofs.Moving.{Moving, start, step, end_behind, end_first}
+use Rattle.result.proofs.Moving.{Moving}
 use Rattle.result.proofs.place_line.Given as goal
 
 abbrev pub invariant-loop-j : goal.invariant-loop-j

@@ -1,4 +1,3 @@
-use native.Mathlib.Omega.{arith}
 use Rattle.result.specs.Marks.{mark_place, with_answer, with_mark}
 use Rattle.result.proofs.tell.Goals as goal
 

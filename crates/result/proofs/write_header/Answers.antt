@@ -1,5 +1,4 @@
 use Rattle.result.specs.FinishLaws.{result_header_lem}
-use native.Mathlib.Omega.{arith}
 use Rattle.result.proofs.write_header.Goals as goal
 
 pub returns : goal.returns

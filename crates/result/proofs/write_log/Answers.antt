@@ -1,7 +1,6 @@
-use Prim.Native.Nat.{◌-◌}
 use native.Mathlib.Omega.{arith}
 use Rattle.result.specs.Marks.{mark_place}
-use Rattle.result.proofs.Logging.{Logging, start, skip, more, finish}
+use Rattle.result.proofs.Logging.{start, skip, more, finish}
 use Rattle.result.proofs.write_log.Goals as goal
 
 pub loop-i-init : goal.loop-i-init

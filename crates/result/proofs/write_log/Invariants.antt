@@ -1,7 +1,5 @@
 use Prim.Native.Nat.{◌-◌}
-use native.Mathlib.Omega.{arith}
-use Rattle.result.specs.Marks.{mark_place}
-use Rattle.result.proofs.Logging.{Logging, start, skip, more, finish}
+use Rattle.result.proofs.Logging.{Logging}
 use Rattle.result.proofs.write_log.Given as goal
 
 abbrev pub invariant-loop-i : goal.invariant-loop-i

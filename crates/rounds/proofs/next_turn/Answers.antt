@@ -7,7 +7,6 @@ use Rattle.spec.specs.Job.{turn_size}
 use Rattle.laws.specs.Tools.{if-true, if-false}
 use Rattle.turn.specs.Steps.{idles}
 use Rattle.rounds.specs.OnTable.{next_place}
-use borrow.Author.Rules.{rules}
 use Rattle.rounds.proofs.next_turn.Goals as goal
 
 pub returns-then-idles : goal.returns-then-idles

@@ -1,7 +1,5 @@
 -- `rounds::rounds` meets its contract: rounds until one deals no turn, and then no later one does.
-use Rattle.std.proofs.Common.{◌≡◌, ℕ, ◌≤◌, arith, sym, ◌∙◌}
-use Rattle.spec.specs.Deal.{max_dealt}
-use Rattle.rounds.specs.OnTable.{dealing, rounds_on}
+use Rattle.rounds.specs.OnTable.{dealing}
 use Rattle.rounds.proofs.Rounding.{begun, passed}
 use Rattle.rounds.proofs.rounds.Goals as goal
 

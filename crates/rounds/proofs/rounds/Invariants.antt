@@ -1,5 +1,4 @@
 -- After some rounds, what they did; and whether one more is needed.
-use Rattle.std.proofs.Common.{ℕ}
 use Rattle.rounds.specs.OnTable.{dealing}
 use Rattle.rounds.proofs.Rounding.{Upto, left}
 use Rattle.rounds.proofs.rounds.Given as goal

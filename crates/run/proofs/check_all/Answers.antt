@@ -7,7 +7,6 @@ use Rattle.header.specs.Accepted.{accepted_heads}
 use Rattle.laws.specs.Codec.Answer.{accepted, refused}
 use Rattle.laws.specs.Codec.AsBytes.{are_bytes}
 use Rattle.run.proofs.Ends.{by_job, by_lent, by_none}
-use borrow.Author.Rules.{rules}
 use Rattle.run.proofs.check_all.Goals as goal
 
 pub returns-in-Refused : goal.returns-in-Refused

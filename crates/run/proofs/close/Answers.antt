@@ -1,7 +1,6 @@
 use native.Mathlib.Omega.{arith}
 use Rattle.spec.specs.Job.{table_offset, ops_offset, file_length}
 use Rattle.spec.specs.Check.{result_size}
-use borrow.Author.Rules.{rules}
 use Rattle.run.proofs.close.Goals as goal
 
 pub finish-total-requires : goal.finish-total-requires

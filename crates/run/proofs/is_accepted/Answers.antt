@@ -1,4 +1,3 @@
-use borrow.Author.Rules.{rules}
 use Rattle.run.specs.Answer.{is_accepted}
 use Rattle.run.proofs.is_accepted.Goals as goal
 

@@ -1,4 +1,3 @@
-use borrow.Author.Rules.{rules}
 use Rattle.run.specs.Answer.{refused_by}
 use Rattle.run.proofs.refused.Goals as goal
 

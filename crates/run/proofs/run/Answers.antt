@@ -1,6 +1,5 @@
 -- `run::run` meets its contract: the check decides, and a job that meets no row is run.
-use Rattle.std.proofs.Common.{◌≡◌, ◌∙◌, sym, ap}
-use Rattle.run.specs.Answer.{is_accepted}
+use Rattle.std.proofs.Common.{◌∙◌, sym}
 use Rattle.run.specs.Call.{Accepted}
 use Rattle.run.proofs.Ends.{accepted-none, ran, refused}
 use Rattle.run.proofs.run.Goals as goal

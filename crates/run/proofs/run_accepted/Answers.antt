@@ -1,12 +1,11 @@
 -- `run::run_accepted` meets its contract: call by call, as proofs/Accepting says.
-use Rattle.std.proofs.Common.{◌≡◌, ◌/◌, ◌∙◌, ap, length, replicate}
-use Rattle.turn.specs.Rows.{blank_row}
+use Rattle.std.proofs.Common.{◌/◌, ◌∙◌, ap, length, replicate}
 use Rattle.table.specs.Turns.{both}
 use Rattle.table.specs.Told.{told}
 use Rattle.header.specs.Counts.{counts_of}
 use Rattle.reader.specs.Parts.{turns_in}
 use Rattle.run.specs.Table.{all_turns}
-use Rattle.run.proofs.Accepting.{read_asks, load_asks, first, first_is, turns_may, tell_asks, close_asks, all_ran}
+use Rattle.run.proofs.Accepting.{read_asks, load_asks, first_is, turns_may, tell_asks, close_asks, all_ran}
 use Rattle.run.proofs.run_accepted.Goals as goal
 
 pub read-h-requires : goal.read-h-requires

@@ -1,6 +1,5 @@
 use Rattle.spec.specs.Job.{file_length}
 use Rattle.spec.specs.Check.{result_size, small_output}
-use borrow.Author.Rules.{rules}
 use Rattle.run.proofs.small_output.Goals as goal
 
 pub returns : goal.returns

@@ -1,4 +1,3 @@
-use native.Mathlib.Omega.{arith}
 use Rattle.spec.specs.SwitchLog.{logged_of}
 use Rattle.switchlog.proofs.band.Goals as goal
 

@@ -1,5 +1,4 @@
 use native.Mathlib.Omega.{arith}
-use borrow.Author.Rules.{rules}
 use Rattle.laws.specs.Codec.Whole.{logged_there}
 use Rattle.switchlog.proofs.record.Goals as goal
 

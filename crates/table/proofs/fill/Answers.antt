@@ -1,5 +1,5 @@
 -- `table::fill` meets its contract: each pass writes one row more.
-use Rattle.std.proofs.Common.{◌≡◌, ℕ, zero, suc, ◌+◌, ◌<◌, List, [], ◌∷◌, ◌++◌, length, drop, replicate, refl, ap, sym, subst, ◌∙◌, arith, append-nil}
+use Rattle.std.proofs.Common.{◌≡◌, ℕ, zero, suc, ◌+◌, ◌<◌, List, [], ◌∷◌, ◌++◌, length, drop, replicate, refl, ap, sym, subst, arith}
 use Rattle.std.proofs.Math.ListN.{set}
 use native.Mathlib.Numerals.{add-one}
 use Rattle.turn.specs.declared.Row.{Row}

@@ -1,7 +1,6 @@
 -- `price_whole` meets its contract: 16, or what comes of the log by the index that the bands have filled.
 use mathlib.Core.Path.{◌≡◌, sym, ◌∙◌}
 use mathlib.Core.Option.{none}
-use borrow.Author.Rules.{rules}
 use Rattle.spec.specs.Tariff.{wrong_band}
 use Rattle.laws.specs.Codec.Answer.{spot_some, spot_none}
 use Rattle.tariff.proofs.Filled.{index-none}

@@ -2,7 +2,6 @@
 use mathlib.Core.Path.{◌≡◌, sym, ◌∙◌}
 use mathlib.Core.Option.{none}
 use native.Mathlib.Omega.{arith}
-use borrow.Author.Rules.{rules}
 use Rattle.spec.specs.Tariff.{wrong_logged}
 use Rattle.laws.specs.Codec.Whole.{log-count}
 use Rattle.laws.specs.Codec.Answer.{accepted, refused, accepted_by, refused_by_lem}

@@ -2,7 +2,6 @@ use mathlib.Core.Path.{refl, ap, ◌∙◌}
 use native.Mathlib.Omega.{arith}
 use lib.Seq.{take-length}
 use Rattle.wire.specs.Over.{over}
-use borrow.Author.Rules.{rules}
 use Rattle.text.proofs.put_bytes.Goals as goal
 
 pub returns : goal.returns

@@ -1,7 +1,6 @@
 use native.Mathlib.Omega.{arith}
 use Rattle.wire.specs.WroteLaws.{wider}
 use Rattle.text.proofs.Decimal.{decimal_ten}
-use borrow.Author.Rules.{rules}
 use Rattle.text.proofs.put_decimal.Goals as goal
 
 pub put_digits-requires : goal.put_digits-requires

@@ -1,7 +1,6 @@
 use native.Mathlib.Omega.{arith}
 use Rattle.wire.specs.WroteLaws.{wider}
 use Rattle.text.proofs.Decimal.{decimal_twenty}
-use borrow.Author.Rules.{rules}
 use Rattle.text.proofs.put_decimal64.Goals as goal
 
 pub put_digits-requires : goal.put_digits-requires

@@ -1,5 +1,4 @@
 use Rattle.wire.specs.WroteLaws.{then}
-use borrow.Author.Rules.{rules}
 use Rattle.text.proofs.put_field.Goals as goal
 
 pub returns : goal.returns

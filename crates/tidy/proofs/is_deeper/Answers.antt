@@ -1,11 +1,9 @@
 -- `is_deeper` meets its contract: none of the first k depths is above the wanted one.
-use mathlib.Core.Path.{◌≡◌, refl, sym, ◌∙◌}
-use Prim.Native.Nat.{◌-◌, ◌≤◌}
+use mathlib.Core.Path.{refl, sym, ◌∙◌}
 use native.Mathlib.Omega.{arith}
 use native.Mathlib.Numerals.{add-one}
-use lib.ListN.{length, drop, drop_of_length-le}
+use lib.ListN.{drop_of_length-le}
 use lib.Seq.{drop-cons}
-use Rattle.tidy.specs.Given.{any_deeper}
 use Rattle.tidy.proofs.Refused.{deeper_none, deeper_here, deeper_later}
 use Rattle.tidy.proofs.is_deeper.Goals as goal
 

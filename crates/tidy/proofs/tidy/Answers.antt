@@ -2,7 +2,6 @@
 use mathlib.Core.Path.{◌≡◌, refl, sym, ◌∙◌}
 use mathlib.Core.Option.{none}
 use native.Mathlib.Omega.{arith}
-use borrow.Author.Rules.{rules}
 use Rattle.spec.specs.Bytes.{AreBytes}
 use Rattle.spec.specs.Check.{job_fault}
 use Rattle.laws.specs.Codec.Rows.{accepted_header}

@@ -2,7 +2,6 @@
 use mathlib.Core.Path.{sym, ap, ◌∙◌}
 use native.Mathlib.Omega.{arith}
 use lib.Seq.{length-take-le}
-use borrow.Author.Rules.{rules}
 use Rattle.spec.specs.Job.{Header as Counts}
 use Rattle.wire.specs.Comes.{comes_refused, comes_by}
 use Rattle.tidy.proofs.Outcomes.{by_ops, by_output}

@@ -2,7 +2,6 @@
 use mathlib.Core.Path.{◌≡◌, sym, ◌∙◌}
 use mathlib.Core.Option.{none}
 use lib.ListN.{length}
-use borrow.Author.Rules.{rules}
 use Rattle.laws.specs.Codec.Answer.{accepted, refused}
 use Rattle.tidy.specs.Call.{output_fault}
 use Rattle.tidy.proofs.Refused.{passed_wanted, passed_room, tidied-length}

@@ -1,9 +1,9 @@
 -- `wire::clear` meets its contract: the first i zeros are written.
 use mathlib.Core.Path.{◌≡◌, sym, ap, ◌∙◌}
-use Prim.Native.Nat.{ℕ, ◌-◌, ◌≤◌}
+use Prim.Native.Nat.{ℕ}
 use native.Mathlib.Omega.{arith}
 use mathlib.Core.List.{List}
-use lib.ListN.{length, get_or, take, replicate, length-replicate, get_or-replicate}
+use lib.ListN.{length, get_or, replicate, length-replicate, get_or-replicate}
 use lib.Seq.{take_all}
 use Rattle.wire.specs.Over.{over}
 use Rattle.wire.specs.OverLaws.{over_none, over_next, length_over}

@@ -1,15 +1,8 @@
 -- `wire::copy` meets its contract: the first i bytes are written.
-use mathlib.Core.Path.{◌≡◌, sym, ap, ◌∙◌}
-use Prim.Native.Nat.{ℕ, ◌+◌, ◌-◌, ◌≤◌}
-use native.Mathlib.Omega.{arith}
-use mathlib.Core.List.{List}
-use lib.ListN.{length, get_or, take, drop}
-use lib.Seq.{take_all}
-use Rattle.spec.specs.Bytes.{byte}
-use Rattle.laws.specs.Codec.Parts.{byte_in}
+use mathlib.Core.Path.{◌≡◌}
+use Prim.Native.Nat.{◌-◌, ◌≤◌}
+use lib.ListN.{take, drop}
 use Rattle.wire.specs.Over.{over}
-use Rattle.wire.specs.OverLaws.{over_none, over_next, length_over}
-use Rattle.wire.specs.Parts.{length_part}
 use Rattle.wire.proofs.copy.Given as goal
 
 abbrev pub invariant-loop-i : goal.invariant-loop-i

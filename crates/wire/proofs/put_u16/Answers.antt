@@ -4,7 +4,6 @@ use native.Mathlib.Numerals.{add-one}
 use lib.ListN.{length-set}
 use Rattle.spec.specs.Bytes.{two}
 use Rattle.wire.specs.Over.{over}
-use borrow.Author.Rules.{rules}
 use Rattle.wire.proofs.put_u16.Goals as goal
 
 pub bounds-s-at-2 : goal.bounds-s-at-2

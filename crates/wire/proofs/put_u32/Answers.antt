@@ -1,7 +1,5 @@
 -- `wire::put_u32` meets its contract: by its two halves, one behind another.
-use native.Mathlib.Omega.{arith}
 use Rattle.wire.specs.OverLaws.{over_four}
-use borrow.Author.Rules.{rules}
 use Rattle.wire.proofs.put_u32.Goals as goal
 
 pub returns : goal.returns

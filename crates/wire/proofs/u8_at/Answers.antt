@@ -1,5 +1,4 @@
 -- `wire::u8_at` meets its contract: a byte is below 256.
-use native.Mathlib.Omega.{arith}
 use Rattle.spec.specs.Bytes.{byte}
 use Rattle.wire.proofs.u8_at.Goals as goal
 

@@ -1,4 +1,3 @@
-use mathlib.Core.Path.{refl}
 use Prim.Native.Nat.{◌≤◌, zero-le}
 use Rattle.words.proofs.Laws.{past}
 use mathlib.Core.List.{[]}
@@ -7,7 +6,6 @@ use lib.ListN.{get_or-eq_default}
 use Rattle.spec.specs.Bytes.{text}
 use Rattle.spec.specs.Report.{code_words, code_word}
 use Rattle.wire.specs.WroteLaws.{wider}
-use borrow.Author.Rules.{rules}
 use Rattle.words.proofs.put_code.Goals as goal
 
 pub returns-in-0 : goal.returns-in-0

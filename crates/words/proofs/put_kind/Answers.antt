@@ -1,4 +1,3 @@
-use mathlib.Core.Path.{refl}
 use native.Mathlib.Omega.{arith}
 use borrow.Author.Tests.{ne_eqb}
 use Rattle.spec.specs.Basics.{if}
@@ -6,7 +5,6 @@ use Rattle.spec.specs.Bytes.{text}
 use Rattle.spec.specs.Job.{kind_of}
 use Rattle.spec.specs.Report.{kind_word}
 use Rattle.wire.specs.WroteLaws.{wider}
-use borrow.Author.Rules.{rules}
 use Rattle.words.proofs.put_kind.Goals as goal
 
 pub returns-in-2 : goal.returns-in-2

@@ -1,7 +1,6 @@
 use Prim.Native.Nat.{◌^◌, ◌≤◌}
 use native.Mathlib.Omega.{arith}
 use lib.Pow.{pow_mono}
-use borrow.Author.Rules.{rules}
 use Rattle.header.proofs.Header.entries_at.Goals as goal
 
 pub returns : goal.returns

@@ -1,8 +1,5 @@
-use mathlib.Core.List.{[]}
 use native.Mathlib.Omega.{arith}
-use lib.ListN.{get_or}
-use Rattle.spec.specs.Decode.{header_of, op_parts}
-use Rattle.header.specs.Sections.{Part, op_there}
+use Rattle.header.specs.Sections.{op_there}
 use Rattle.header.proofs.Header.op_bytes.Goals as goal
 
 pub slice_bounds-result-end : goal.slice_bounds-result-end

@@ -1,5 +1,4 @@
 use Rattle.header.proofs.Sizes.{table-most}
-use Prim.Native.Nat.{◌*◌, ◌≤◌}
 use native.Mathlib.Omega.{arith}
 use Rattle.spec.specs.Job.{ops_offset}
 use Rattle.header.proofs.Header.ops_offset.Goals as goal

@@ -1,5 +1,4 @@
 use Rattle.spec.specs.Decode.{header_of}
-use native.Mathlib.Omega.{arith}
 use Rattle.header.proofs.Header.read.Goals as goal
 
 pub returns : goal.returns

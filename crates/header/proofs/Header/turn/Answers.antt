@@ -1,5 +1,4 @@
 use mathlib.Core.Path.{◌∙◌}
-use native.Mathlib.Omega.{arith}
 use Rattle.header.specs.Sections.{turn_there}
 use Rattle.header.proofs.Header.turn.Goals as goal
 

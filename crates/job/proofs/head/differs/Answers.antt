@@ -1,4 +1,3 @@
-use native.Mathlib.Omega.{arith}
 use Rattle.job.proofs.head.differs.Goals as goal
 
 pub returns : goal.returns

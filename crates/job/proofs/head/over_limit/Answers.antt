@@ -1,6 +1,5 @@
 use mathlib.Core.Path.{◌≡◌}
 use mathlib.Core.List.{[], ◌∷◌}
-use native.Mathlib.Omega.{arith}
 use Rattle.spec.specs.Basics.{when, or_else, among}
 use Rattle.spec.specs.Job.{used_at, min_ops, max_ops, op_count_at, min_turns, max_turns, turn_count_at}
 use Rattle.spec.specs.Check.{outside, over_limit}

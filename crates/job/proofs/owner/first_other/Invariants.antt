@@ -1,10 +1,6 @@
 use Prim.Native.Nat.{◌-◌}
-use native.Mathlib.Omega.{arith}
-use borrow.Author.Tests.{eq-eqb, ne_eqb}
-use Rattle.spec.specs.File.{entry_at}
-use Rattle.spec.specs.Decode.{job_of}
 use Rattle.job.specs.Owner.{other}
-use Rattle.job.proofs.Lowest.{Climbed, climb_none, climb_more, climb_hit, climb-all}
+use Rattle.job.proofs.Lowest.{Climbed}
 use Rattle.job.proofs.owner.first_other.Given as goal
 
 abbrev pub invariant-loop-j : goal.invariant-loop-j

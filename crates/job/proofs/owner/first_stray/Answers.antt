@@ -1,8 +1,6 @@
 use mathlib.Core.Path.{sym, ◌∙◌}
-use Prim.Native.Nat.{◌-◌}
 use native.Mathlib.Omega.{arith}
-use Rattle.job.specs.Owner.{stray}
-use Rattle.job.proofs.Lowest.{Climbed, climb_none, climb_more, climb_hit, climb-all}
+use Rattle.job.proofs.Lowest.{climb_none, climb_more, climb_hit, climb-all}
 use Rattle.job.proofs.owner.first_stray.Goals as goal
 
 pub entries-n-requires : goal.entries-n-requires

@@ -1,8 +1,6 @@
-use mathlib.Core.Path.{sym, ◌∙◌}
 use Prim.Native.Nat.{◌-◌}
-use native.Mathlib.Omega.{arith}
 use Rattle.job.specs.Owner.{stray}
-use Rattle.job.proofs.Lowest.{Climbed, climb_none, climb_more, climb_hit, climb-all}
+use Rattle.job.proofs.Lowest.{Climbed}
 use Rattle.job.proofs.owner.first_stray.Given as goal
 
 abbrev pub invariant-loop-j : goal.invariant-loop-j

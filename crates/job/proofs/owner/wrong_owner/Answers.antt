@@ -1,8 +1,6 @@
-use Prim.Native.Nat.{◌-◌, ◌^◌, ◌≤◌}
 use native.Mathlib.Omega.{arith}
-use Rattle.job.specs.Owner.{Lowest}
 use Rattle.job.proofs.Lowest.{lowest_same, lowest_or}
-use Rattle.job.proofs.Foreign.{up_to, up_none, up_more, owner_stop, owner_end}
+use Rattle.job.proofs.Foreign.{up_none, up_more, owner_stop, owner_end}
 use Rattle.job.proofs.owner.wrong_owner.Goals as goal
 
 pub first_stray-first-requires : goal.first_stray-first-requires

@@ -1,5 +1,4 @@
 use mathlib.Core.Path.{sym, ◌∙◌}
-use native.Mathlib.Omega.{arith}
 use Rattle.job.proofs.Calls.{call_there}
 use Rattle.job.proofs.records.call_at.Goals as goal
 

@@ -1,14 +1,11 @@
 use mathlib.Core.Path.{refl, sym, ◌∙◌}
-use mathlib.Core.List.{List}
-use Prim.Native.Nat.{ℕ, ◌-◌}
 use native.Mathlib.Omega.{arith}
-use Rattle.spec.specs.declared.Rec.{Rec}
 use Rattle.spec.specs.Job.{record_place}
 use Rattle.spec.specs.Decode.{page_of}
 use Rattle.spec.specs.Check.{bad_record, record_fault}
 use Rattle.laws.specs.Codec.Pages.{records-count}
 use Rattle.spec.specs.File.{no_record}
-use Rattle.laws.specs.Codec.Passed.{Clear, clear_none, clear_more, clear_hit, clear_all}
+use Rattle.laws.specs.Codec.Passed.{clear_none, clear_more, clear_hit, clear_all}
 use Rattle.job.proofs.records.wrong_record_in.Invariants.{records}
 use Rattle.job.proofs.records.wrong_record_in.Goals as goal
 

@@ -1,10 +1,5 @@
-use mathlib.Core.Bool.{◌&&◌}
-use mathlib.Core.Path.{◌≡◌, refl, sym, ◌∙◌}
-use Prim.Native.Nat.{◌-◌, ◌*◌, ◌≤◌}
+use mathlib.Core.Path.{refl, sym, ◌∙◌}
 use native.Mathlib.Omega.{arith}
-use lib.Dec.{eqb}
-use lib.ListN.{length, drop}
-use Rattle.laws.specs.Codec.Zeros.{zeros}
 use Rattle.job.proofs.Zeros.{zeros_sum, zeros_all}
 use Rattle.job.proofs.table.is_zero.Goals as goal
 

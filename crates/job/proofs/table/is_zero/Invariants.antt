@@ -1,11 +1,9 @@
 use mathlib.Core.Bool.{◌&&◌}
-use mathlib.Core.Path.{◌≡◌, refl, sym, ◌∙◌}
+use mathlib.Core.Path.{◌≡◌}
 use Prim.Native.Nat.{◌-◌, ◌*◌, ◌≤◌}
-use native.Mathlib.Omega.{arith}
 use lib.Dec.{eqb}
 use lib.ListN.{length, drop}
 use Rattle.laws.specs.Codec.Zeros.{zeros}
-use Rattle.job.proofs.Zeros.{zeros_sum, zeros_all}
 use Rattle.job.proofs.table.is_zero.Given as goal
 
 abbrev pub invariant-loop-i : goal.invariant-loop-i

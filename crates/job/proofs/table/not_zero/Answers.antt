@@ -1,9 +1,6 @@
-use mathlib.Core.Path.{◌≡◌, refl, sym, ◌∙◌}
-use Prim.Native.Nat.{◌+◌, ◌-◌, ◌≤◌}
+use mathlib.Core.Path.{refl, sym, ◌∙◌}
 use native.Mathlib.Omega.{arith}
 use native.Mathlib.Nat.{add_assoc}
-use lib.ListN.{length, drop}
-use Rattle.spec.specs.Check.{not_zero}
 use Rattle.spec.specs.Cases.{spot_of}
 use Rattle.laws.specs.Codec.Zeros.{not-zero-none}
 use Rattle.job.proofs.Zeros.{not-zero-next, not-zero_hit, not-zero_end}

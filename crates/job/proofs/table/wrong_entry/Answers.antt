@@ -1,7 +1,7 @@
 use mathlib.Core.Path.{◌≡◌, refl, sym, ◌∙◌}
 use mathlib.Core.Bool.{Bool}
 use mathlib.Core.List.{List}
-use Prim.Native.Nat.{ℕ, ◌-◌}
+use Prim.Native.Nat.{ℕ}
 use native.Mathlib.Omega.{arith}
 use lib.ListN.{get_or}
 use Rattle.spec.specs.Job.{entry_place}
@@ -10,7 +10,7 @@ use Rattle.spec.specs.Check.{outside, entry_fault, wrong_entry}
 use Rattle.header.specs.declared.Header.{Header}
 use Rattle.header.specs.Counts.{Heads}
 use Rattle.header.specs.Sections.{entries-count}
-use Rattle.laws.specs.Codec.Passed.{Clear, clear_none, clear_more, clear_hit, clear_all}
+use Rattle.laws.specs.Codec.Passed.{clear_none, clear_more, clear_hit, clear_all}
 use Rattle.job.proofs.table.wrong_entry.Invariants.{bad, entries}
 use Rattle.job.proofs.table.wrong_entry.Goals as goal
 

@@ -1,16 +1,9 @@
-use mathlib.Core.Path.{◌≡◌, refl, sym, ◌∙◌}
 use mathlib.Core.Bool.{Bool}
 use mathlib.Core.List.{List}
 use Prim.Native.Nat.{ℕ, ◌-◌}
-use native.Mathlib.Omega.{arith}
-use lib.ListN.{get_or}
-use Rattle.spec.specs.Job.{entry_place}
-use Rattle.spec.specs.Decode.{file_of, job_of}
-use Rattle.spec.specs.Check.{outside, entry_fault, wrong_entry}
-use Rattle.header.specs.declared.Header.{Header}
-use Rattle.header.specs.Counts.{Heads}
-use Rattle.header.specs.Sections.{entries-count}
-use Rattle.laws.specs.Codec.Passed.{Clear, clear_none, clear_more, clear_hit, clear_all}
+use Rattle.spec.specs.Decode.{job_of}
+use Rattle.spec.specs.Check.{outside}
+use Rattle.laws.specs.Codec.Passed.{Clear}
 use Rattle.job.proofs.table.wrong_entry.Given as goal
 
 abbrev pub bad : List ℕ → ℕ → ℕ → Bool

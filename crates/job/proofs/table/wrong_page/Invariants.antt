@@ -1,20 +1,9 @@
-use mathlib.Core.Path.{◌≡◌, sym, ◌∙◌}
 use mathlib.Core.List.{List, []}
 use mathlib.Core.Option.{Option}
-use Prim.Native.Nat.{ℕ, suc, ◌+◌, ◌-◌}
-use native.Mathlib.Omega.{arith}
-use native.Mathlib.Numerals.{add-one}
-use lib.ListN.{get_or}
-use Rattle.spec.specs.declared.Checked.{Checked}
+use Prim.Native.Nat.{ℕ, suc, ◌-◌}
 use Rattle.spec.specs.Decode.{header_of, page_parts}
-use Rattle.spec.specs.Check.{Fault, page_fault, wrong_page}
-use Rattle.spec.specs.Cases.{checked_of}
-use Rattle.laws.specs.Codec.Walk.{first_from_1, first-at}
-use Rattle.header.specs.declared.Header.{Header}
-use Rattle.header.specs.Counts.{counts_of, Heads}
-use Rattle.header.specs.Sections.{pages-count}
-use Rattle.laws.specs.Codec.Answer.{accepted, refused}
-use Rattle.laws.specs.Codec.Passed.{Passed, passed_none, passed_more, passed_end}
+use Rattle.spec.specs.Check.{Fault, page_fault}
+use Rattle.laws.specs.Codec.Passed.{Passed}
 use Rattle.job.proofs.table.wrong_page.Given as goal
 
 abbrev pub fault : List ℕ → ℕ → List ℕ → Option Fault

@@ -1,6 +1,5 @@
 use Rattle.spec.specs.Check.{outside, bad_op}
 use borrow.Author.Tests.{lt-ltb, le-ltb, eq-eqb, ne_eqb}
-use native.Mathlib.Omega.{arith}
 use Rattle.job.proofs.work.bad_op.Goals as goal
 
 pub returns-then-kind-lt1 : goal.returns-then-kind-lt1

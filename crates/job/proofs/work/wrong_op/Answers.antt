@@ -1,13 +1,11 @@
 use mathlib.Core.Path.{sym, ◌∙◌}
-use mathlib.Core.Bool.{Bool}
-use mathlib.Core.List.{List, []}
-use Prim.Native.Nat.{ℕ, ◌-◌}
+use mathlib.Core.List.{[]}
 use native.Mathlib.Omega.{arith}
 use Rattle.spec.specs.Job.{op_place}
-use Rattle.spec.specs.Decode.{header_of, op_parts}
-use Rattle.spec.specs.Check.{bad_op, op_fault, wrong_op}
+use Rattle.spec.specs.Decode.{header_of}
+use Rattle.spec.specs.Check.{op_fault, wrong_op}
 use Rattle.header.specs.Sections.{ops-count}
-use Rattle.laws.specs.Codec.Passed.{Clear, clear_none, clear_more, clear_hit, clear_all}
+use Rattle.laws.specs.Codec.Passed.{clear_none, clear_more, clear_hit, clear_all}
 use Rattle.job.proofs.work.wrong_op.Invariants.{bad, ops}
 use Rattle.job.proofs.work.wrong_op.Goals as goal
 

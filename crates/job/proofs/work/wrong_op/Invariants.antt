@@ -1,13 +1,9 @@
-use mathlib.Core.Path.{sym, ◌∙◌}
 use mathlib.Core.Bool.{Bool}
 use mathlib.Core.List.{List, []}
 use Prim.Native.Nat.{ℕ, ◌-◌}
-use native.Mathlib.Omega.{arith}
-use Rattle.spec.specs.Job.{op_place}
 use Rattle.spec.specs.Decode.{header_of, op_parts}
-use Rattle.spec.specs.Check.{bad_op, op_fault, wrong_op}
-use Rattle.header.specs.Sections.{ops-count}
-use Rattle.laws.specs.Codec.Passed.{Clear, clear_none, clear_more, clear_hit, clear_all}
+use Rattle.spec.specs.Check.{bad_op}
+use Rattle.laws.specs.Codec.Passed.{Clear}
 use Rattle.job.proofs.work.wrong_op.Given as goal
 
 abbrev pub bad : ℕ → List ℕ → Bool

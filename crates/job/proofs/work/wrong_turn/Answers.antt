@@ -1,18 +1,18 @@
 use mathlib.Core.Path.{◌≡◌}
 use mathlib.Core.Bool.{Bool, true, false}
 use mathlib.Core.List.{List, []}
-use Prim.Native.Nat.{ℕ, ◌-◌}
+use Prim.Native.Nat.{ℕ}
 use native.Mathlib.Omega.{arith}
 use lib.ListN.{get_or}
 use lib.Dec.{leb}
 use borrow.Author.Tests.{le-leb, lt-leb}
 use Rattle.spec.specs.Job.{turn_place}
-use Rattle.spec.specs.Decode.{header_of, turn_parts, number_of, job_of}
+use Rattle.spec.specs.Decode.{header_of, job_of}
 use Rattle.spec.specs.Check.{turn_fault, wrong_turn}
 use Rattle.header.specs.declared.Header.{Header}
 use Rattle.header.specs.Counts.{Heads}
 use Rattle.header.specs.Sections.{turns-count, numbers_at}
-use Rattle.laws.specs.Codec.Passed.{Clear, clear_none, clear_more, clear_hit, clear_all}
+use Rattle.laws.specs.Codec.Passed.{clear_none, clear_more, clear_hit, clear_all}
 use Rattle.job.proofs.work.wrong_turn.Invariants.{bad, turns}
 use Rattle.job.proofs.work.wrong_turn.Goals as goal
 

@@ -2,7 +2,6 @@ use native.Mathlib.Omega.{arith}
 use Rattle.wire.specs.WroteLaws.{same, wider}
 use Rattle.text.specs.Sections.{lent_rest}
 use Rattle.report.proofs.Reading.{answers-read}
-use borrow.Author.Rules.{rules}
 use Rattle.report.proofs.sections.answer_lines.Goals as goal
 
 pub returns : goal.returns

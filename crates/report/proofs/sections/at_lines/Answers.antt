@@ -1,11 +1,9 @@
 use mathlib.Core.Path.{◌≡◌, sym}
-use mathlib.Core.List.{map}
-use Prim.Native.Nat.{ℕ, ◌-◌, ◌*◌, ◌≤◌}
+use Prim.Native.Nat.{ℕ, ◌*◌}
 use native.Mathlib.Omega.{arith}
 use Rattle.spec.specs.Basics.{each}
 use Rattle.spec.specs.Bytes.{parts}
 use Rattle.spec.specs.Report.{at_line}
-use Rattle.wire.specs.Wrote.{Wrote}
 use Rattle.wire.specs.WroteLaws.{none, then, same, wider, kept}
 use Rattle.wire.specs.Parts.{length_part}
 use Rattle.spec.specs.Result.{line_of}

@@ -2,7 +2,6 @@ use native.Mathlib.Omega.{arith}
 use Rattle.wire.specs.WroteLaws.{same, wider}
 use Rattle.text.specs.Sections.{lent_rest}
 use Rattle.report.proofs.Reading.{file-read, file_asks}
-use borrow.Author.Rules.{rules}
 use Rattle.report.proofs.sections.file_lines.Goals as goal
 
 pub page_lines-requires : goal.page_lines-requires

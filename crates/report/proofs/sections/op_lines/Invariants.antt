@@ -1,16 +1,10 @@
-use mathlib.Core.Path.{◌≡◌, sym}
 use mathlib.Core.List.{map}
-use Prim.Native.Nat.{ℕ, ◌-◌, ◌*◌, ◌≤◌}
-use native.Mathlib.Omega.{arith}
+use Prim.Native.Nat.{◌-◌, ◌*◌, ◌≤◌}
 use Rattle.spec.specs.Bytes.{parts}
 use Rattle.spec.specs.Decode.{op_of}
 use Rattle.spec.specs.Report.{op_lines}
 use Rattle.wire.specs.Wrote.{Wrote}
-use Rattle.wire.specs.WroteLaws.{none, then, same, wider, kept}
-use Rattle.wire.specs.Parts.{length_part}
 use Rattle.spec.specs.Result.{answer_of}
-use Rattle.text.specs.Sections.{lent}
-use Rattle.report.proofs.Laws.{op-more}
 use Rattle.report.proofs.sections.op_lines.Given as goal
 
 abbrev pub invariant-loop-i : goal.invariant-loop-i

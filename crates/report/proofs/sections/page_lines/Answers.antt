@@ -1,11 +1,7 @@
 use mathlib.Core.Path.{◌≡◌, sym}
-use mathlib.Core.List.{map}
-use Prim.Native.Nat.{◌-◌, ◌*◌, ◌≤◌}
 use native.Mathlib.Omega.{arith}
 use Rattle.spec.specs.Bytes.{parts}
-use Rattle.spec.specs.Decode.{page_of}
 use Rattle.spec.specs.Report.{page_lines}
-use Rattle.wire.specs.Wrote.{Wrote}
 use Rattle.wire.specs.WroteLaws.{none, then, same, wider, kept}
 use Rattle.wire.specs.Parts.{length_part}
 use Rattle.text.specs.Sections.{one_more, inside, lent}

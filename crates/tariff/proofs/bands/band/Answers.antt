@@ -1,5 +1,4 @@
 use native.Mathlib.Omega.{arith}
-use borrow.Author.Rules.{rules}
 use Rattle.laws.specs.Codec.Whole.{band_there}
 use Rattle.tariff.proofs.bands.band.Goals as goal
 

@@ -1,12 +1,8 @@
-use mathlib.Core.Path.{refl, sym, ap, ◌∙◌}
-use Prim.Native.Nat.{◌-◌, ◌*◌}
-use native.Mathlib.Omega.{arith}
+use Prim.Native.Nat.{◌-◌}
 use lib.ListN.{take}
-use lib.Seq.{take_all}
-use Rattle.spec.specs.Tariff.{Band, band_size, bands_of, no_band, bad_band, band_fault}
-use Rattle.laws.specs.Codec.Passed.{Clear, clear_none, clear_more, clear_hit, clear_all}
+use Rattle.spec.specs.Tariff.{bands_of, no_band, bad_band}
+use Rattle.laws.specs.Codec.Passed.{Clear}
 use Rattle.tariff.specs.Index.{Indexed}
-use Rattle.tariff.proofs.Filled.{told, index-next}
 use Rattle.tariff.proofs.bands.first_bad.Given as goal
 
 -- no band before band i is bad, and all of them are in the index

@@ -1,7 +1,6 @@
 use mathlib.Core.Path.{◌≡◌, ap, ◌∙◌}
 use native.Mathlib.Omega.{arith}
 use lib.ListN.{get_or}
-use borrow.Author.Rules.{rules}
 use Rattle.spec.specs.Tariff.{Band, no_band, bands_of}
 use Rattle.tariff.proofs.Filled.{bad_code, bad_low, bad_high}
 use Rattle.tariff.proofs.bands.is_bad.Goals as goal

@@ -1,5 +1,4 @@
 -- `inserts::put_insert` meets its contract: kind, call and charge one behind another.
-use borrow.Author.Rules.{rules}
 use Rattle.tariff.proofs.Bytes.{insert_put}
 use Rattle.tariff.proofs.inserts.put_insert.Goals as goal
 

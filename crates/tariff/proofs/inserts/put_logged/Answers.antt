@@ -1,6 +1,5 @@
 -- `inserts::put_logged` meets its contract: the record's call, and its charge.
 use mathlib.Core.Path.{ap, ◌∙◌}
-use borrow.Author.Rules.{rules}
 use Rattle.spec.specs.declared.Op.{Op}
 use Rattle.spec.specs.Encode.{op_bytes}
 use Rattle.spec.specs.SwitchLog.{logged_of}

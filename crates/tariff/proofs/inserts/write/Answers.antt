@@ -1,13 +1,12 @@
 -- `inserts::write` meets its contract: an insert for each record, one behind another.
 use mathlib.Core.Path.{ap, ◌∙◌}
-use Prim.Native.Nat.{◌-◌, ◌≤◌}
 use native.Mathlib.Omega.{arith}
 use lib.ListN.{length}
 use Rattle.laws.specs.Codec.Whole.{log-count}
 use Rattle.laws.specs.Tariff.{logged_good}
 use Rattle.laws.specs.Priced.{size}
 use Rattle.wire.specs.OverLaws.{length_over}
-use Rattle.tariff.proofs.Bytes.{Put, put_none, put_more, put_all}
+use Rattle.tariff.proofs.Bytes.{put_none, put_more, put_all}
 use Rattle.tariff.proofs.inserts.write.Goals as goal
 
 pub loop-i-init : goal.loop-i-init

@@ -2,9 +2,7 @@
 use mathlib.Core.Path.{◌≡◌, sym, ◌∙◌}
 use mathlib.Core.Option.{some}
 use Prim.Native.Nat.{◌<◌}
-use native.Mathlib.Omega.{arith}
 use lib.ListN.{length, get_or}
-use borrow.Author.Rules.{rules}
 use Rattle.spec.specs.SwitchLog.{logged_of}
 use Rattle.spec.specs.Tariff.{no_band, bands_of, band_for}
 use Rattle.laws.specs.Tariff.{unit_good}

@@ -2,7 +2,6 @@
 use mathlib.Core.Path.{◌≡◌}
 use mathlib.Core.Bool.{true}
 use native.Mathlib.Omega.{arith}
-use borrow.Author.Rules.{rules}
 use Rattle.spec.specs.SwitchLog.{logged_of}
 use Rattle.spec.specs.Tariff.{bands_of, is_coded}
 use Rattle.tariff.proofs.Refusals.{nobody, somebody, refuse_spare, refuse_band, refuse_charge, refuse_none}

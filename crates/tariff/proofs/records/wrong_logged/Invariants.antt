@@ -1,17 +1,11 @@
 -- `records::wrong_logged` meets its contract: the fault of the first record that has one.
-use mathlib.Core.Path.{sym, ◌∙◌}
 use mathlib.Core.List.{List}
 use mathlib.Core.Option.{Option}
 use Prim.Native.Nat.{ℕ, ◌*◌, ◌-◌}
-use native.Mathlib.Omega.{arith}
 use Rattle.spec.specs.Check.{Fault}
-use Rattle.spec.specs.Cases.{checked_of}
 use Rattle.spec.specs.SwitchLog.{Logged, logged_size, no_logged, switch_log}
-use Rattle.spec.specs.Tariff.{bands_of, logged_fault, wrong_logged}
-use Rattle.laws.specs.Codec.Walk.{first-at}
-use Rattle.laws.specs.Codec.Whole.{log-count}
-use Rattle.laws.specs.Codec.Answer.{accepted, refused}
-use Rattle.laws.specs.Codec.Passed.{Passed, passed_none, passed_more, passed_end}
+use Rattle.spec.specs.Tariff.{bands_of, logged_fault}
+use Rattle.laws.specs.Codec.Passed.{Passed}
 use Rattle.tariff.proofs.records.wrong_logged.Given as goal
 
 abbrev pub fault : List ℕ → ℕ → Logged → Option Fault

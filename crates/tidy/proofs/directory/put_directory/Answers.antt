@@ -1,15 +1,11 @@
 -- `put_directory` meets its contract: the entries of the first k pages are written, and then those of one more.
-use mathlib.Core.Path.{◌≡◌, refl, sym, ◌∙◌}
+use mathlib.Core.Path.{refl, sym, ◌∙◌}
 use Prim.Native.Nat.{◌-◌, ◌^◌, ◌≤◌}
 use native.Mathlib.Omega.{arith}
-use lib.ListN.{length, get_or, take}
+use lib.ListN.{get_or}
 use lib.Pow.{pow_mono}
-use Rattle.spec.specs.Basics.{each}
-use Rattle.spec.specs.Bytes.{two}
 use Rattle.laws.specs.Tools.{each_at}
-use Rattle.laws.specs.Tidy.Entries.{start_of, spread}
 use Rattle.laws.specs.Tidy.Starts.{start-zero}
-use Rattle.wire.specs.Over.{over}
 use Rattle.tidy.proofs.Known.{run_of}
 use Rattle.tidy.proofs.Table.{runs_none, run_inside, start-more, runs_next, runs_all}
 use Rattle.tidy.proofs.directory.put_directory.Goals as goal

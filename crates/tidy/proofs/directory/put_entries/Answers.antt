@@ -1,11 +1,7 @@
 -- `put_entries` meets its contract: i entries are written, and then one more.
 use mathlib.Core.Path.{◌≡◌, refl, ◌∙◌}
-use Prim.Native.Nat.{◌-◌, ◌*◌, ◌≤◌}
+use Prim.Native.Nat.{◌*◌}
 use native.Mathlib.Omega.{arith}
-use lib.ListN.{length, replicate}
-use Rattle.spec.specs.Basics.{each}
-use Rattle.spec.specs.Bytes.{two}
-use Rattle.wire.specs.Over.{over}
 use Rattle.tidy.proofs.Table.{entries_none, entries_next}
 use Rattle.tidy.proofs.directory.put_entries.Goals as goal
 

@@ -1,12 +1,10 @@
 -- `put_entries` meets its contract: i entries are written, and then one more.
-use mathlib.Core.Path.{◌≡◌, refl, ◌∙◌}
+use mathlib.Core.Path.{◌≡◌}
 use Prim.Native.Nat.{◌-◌, ◌*◌, ◌≤◌}
-use native.Mathlib.Omega.{arith}
 use lib.ListN.{length, replicate}
 use Rattle.spec.specs.Basics.{each}
 use Rattle.spec.specs.Bytes.{two}
 use Rattle.wire.specs.Over.{over}
-use Rattle.tidy.proofs.Table.{entries_none, entries_next}
 use Rattle.tidy.proofs.directory.put_entries.Given as goal
 
 abbrev pub invariant-loop-i : goal.invariant-loop-i

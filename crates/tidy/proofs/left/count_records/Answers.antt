@@ -1,13 +1,12 @@
 -- `left::count_records` meets its contract: the numbers up to entry j are written, and `sum` is the last of them.
-use mathlib.Core.Path.{◌≡◌, refl, sym, ◌∙◌}
-use Prim.Native.Nat.{◌+◌, ◌-◌, ◌^◌, ◌≤◌, ◌<◌}
+use mathlib.Core.Path.{refl, sym, ◌∙◌}
+use Prim.Native.Nat.{◌+◌, ◌^◌, ◌≤◌, ◌<◌}
 use native.Mathlib.Omega.{arith}
 use lib.ListN.{length, length-set}
 use Rattle.spec.specs.Decode.{file_of}
-use Rattle.laws.specs.Tidy.Entries.{records_before}
 use Rattle.laws.specs.Tidy.Spans.{before-zero, before-most}
 use Rattle.tidy.proofs.Known.{depth_is}
-use Rattle.tidy.proofs.Counting.{Upto, upto_none, sum_next, upto_next}
+use Rattle.tidy.proofs.Counting.{upto_none, sum_next, upto_next}
 use Rattle.tidy.proofs.left.count_records.Goals as goal
 
 pub entries-n-requires : goal.entries-n-requires

@@ -1,13 +1,10 @@
 -- `left::depth_on` meets its contract: no depth below l leaves few enough records.
-use mathlib.Core.Path.{◌≡◌, sym, ◌∙◌}
+use mathlib.Core.Path.{◌≡◌}
 use mathlib.Core.List.{List}
 use Prim.Native.Nat.{ℕ, ◌-◌, ◌≤◌}
-use native.Mathlib.Omega.{arith}
 use Rattle.spec.specs.Decode.{file_of}
 use Rattle.laws.specs.Tidy.Entries.{depth_from, depth_on}
-use Rattle.laws.specs.Tidy.Depths.{depth-start}
 use Rattle.tidy.specs.Given.{Given, Counted}
-use Rattle.tidy.proofs.Counting.{stops, goes_on, ends}
 use Rattle.tidy.proofs.left.depth_on.Given as goal
 
 abbrev pub invariant-loop-l : goal.invariant-loop-l

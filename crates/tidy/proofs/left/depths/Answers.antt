@@ -1,12 +1,8 @@
 -- `left::depths` meets its contract: k depths are written, and those from entry j on are left.
-use mathlib.Core.Path.{◌≡◌, refl, ◌∙◌}
-use mathlib.Core.List.{List, ◌++◌}
-use Prim.Native.Nat.{ℕ, ◌-◌, ◌<◌, ◌≤◌}
+use mathlib.Core.Path.{refl, ◌∙◌}
+use Prim.Native.Nat.{◌-◌, ◌<◌}
 use native.Mathlib.Omega.{arith}
-use lib.ListN.{length, take, length-set}
-use Rattle.spec.specs.Decode.{file_of}
-use Rattle.laws.specs.Tidy.Entries.{depths_left}
-use Rattle.tidy.specs.Given.{Given, Counted}
+use lib.ListN.{length, length-set}
 use Rattle.tidy.proofs.Known.{Run, run_of}
 use Rattle.tidy.proofs.Counting.{depths_next, depths_all}
 use Rattle.tidy.proofs.left.depths.Goals as goal

@@ -1,14 +1,11 @@
 -- `left::depths` meets its contract: k depths are written, and those from entry j on are left.
-use mathlib.Core.Path.{◌≡◌, refl, ◌∙◌}
+use mathlib.Core.Path.{◌≡◌}
 use mathlib.Core.List.{List, ◌++◌}
-use Prim.Native.Nat.{ℕ, ◌-◌, ◌<◌, ◌≤◌}
-use native.Mathlib.Omega.{arith}
-use lib.ListN.{length, take, length-set}
+use Prim.Native.Nat.{ℕ, ◌-◌, ◌≤◌}
+use lib.ListN.{length, take}
 use Rattle.spec.specs.Decode.{file_of}
 use Rattle.laws.specs.Tidy.Entries.{depths_left}
 use Rattle.tidy.specs.Given.{Given, Counted}
-use Rattle.tidy.proofs.Known.{Run, run_of}
-use Rattle.tidy.proofs.Counting.{depths_next, depths_all}
 use Rattle.tidy.proofs.left.depths.Given as goal
 
 abbrev pub invariant-loop-j : goal.invariant-loop-j

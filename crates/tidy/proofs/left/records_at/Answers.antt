@@ -1,6 +1,5 @@
 -- `left::records_at` meets its contract: a page's records count at its first entry alone.
 use mathlib.Core.Path.{refl}
-use Prim.Native.Nat.{◌-◌}
 use native.Mathlib.Omega.{arith}
 use Rattle.tidy.proofs.Known.{shown_depth, run_fits, at_first, at_later}
 use Rattle.tidy.proofs.left.records_at.Goals as goal

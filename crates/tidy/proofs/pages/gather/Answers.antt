@@ -1,10 +1,8 @@
 -- `pages::gather` meets its contract: the records before entry j are in, and the page that entry j names comes next.
-use mathlib.Core.Path.{◌≡◌, refl}
-use Prim.Native.Nat.{◌-◌}
+use mathlib.Core.Path.{refl}
 use native.Mathlib.Omega.{arith}
-use lib.ListN.{length}
 use Rattle.spec.specs.Decode.{file_of}
-use Rattle.tidy.proofs.Gather.{Gathers, gathers_none, gathers_length, gathers_all, run_range, entries-most, step_room, step-deep, step-more}
+use Rattle.tidy.proofs.Gather.{gathers_none, gathers_length, gathers_all, run_range, entries-most, step_room, step-deep, step-more}
 use Rattle.tidy.proofs.pages.gather.Goals as goal
 
 pub loop-j-init : goal.loop-j-init

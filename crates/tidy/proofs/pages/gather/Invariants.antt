@@ -1,10 +1,9 @@
 -- `pages::gather` meets its contract: the records before entry j are in, and the page that entry j names comes next.
-use mathlib.Core.Path.{◌≡◌, refl}
+use mathlib.Core.Path.{◌≡◌}
 use Prim.Native.Nat.{◌-◌}
-use native.Mathlib.Omega.{arith}
 use lib.ListN.{length}
 use Rattle.spec.specs.Decode.{file_of}
-use Rattle.tidy.proofs.Gather.{Gathers, gathers_none, gathers_length, gathers_all, run_range, entries-most, step_room, step-deep, step-more}
+use Rattle.tidy.proofs.Gather.{Gathers}
 use Rattle.tidy.proofs.pages.gather.Given as goal
 
 abbrev pub invariant-loop-j : goal.invariant-loop-j

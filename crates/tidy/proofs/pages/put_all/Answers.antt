@@ -1,14 +1,9 @@
 -- `pages::put_all` meets its contract: the first i records of the page are put in; what is written is read back.
 use mathlib.Core.Path.{◌≡◌, refl, ◌∙◌}
-use Prim.Native.Nat.{◌-◌, ◌≤◌}
 use native.Mathlib.Omega.{arith}
-use lib.ListN.{length}
-use Rattle.spec.specs.Basics.{each}
 use Rattle.spec.specs.Bytes.{byte}
-use Rattle.spec.specs.Encode.{record_bytes}
-use Rattle.wire.specs.Over.{over}
 use Rattle.page.specs.View.{records_all}
-use Rattle.tidy.proofs.Gather.{partly, partly_none, Partly-more}
+use Rattle.tidy.proofs.Gather.{partly_none, Partly-more}
 use Rattle.tidy.proofs.pages.put_all.Goals as goal
 
 pub loop-i-init : goal.loop-i-init

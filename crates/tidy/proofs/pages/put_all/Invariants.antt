@@ -1,14 +1,11 @@
 -- `pages::put_all` meets its contract: the first i records of the page are put in; what is written is read back.
-use mathlib.Core.Path.{◌≡◌, refl, ◌∙◌}
+use mathlib.Core.Path.{◌≡◌}
 use Prim.Native.Nat.{◌-◌, ◌≤◌}
-use native.Mathlib.Omega.{arith}
 use lib.ListN.{length}
 use Rattle.spec.specs.Basics.{each}
-use Rattle.spec.specs.Bytes.{byte}
 use Rattle.spec.specs.Encode.{record_bytes}
 use Rattle.wire.specs.Over.{over}
-use Rattle.page.specs.View.{records_all}
-use Rattle.tidy.proofs.Gather.{partly, partly_none, Partly-more}
+use Rattle.tidy.proofs.Gather.{partly}
 use Rattle.tidy.proofs.pages.put_all.Given as goal
 
 abbrev pub invariant-loop-i : goal.invariant-loop-i

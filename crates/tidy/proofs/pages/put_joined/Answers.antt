@@ -1,7 +1,6 @@
 -- `pages::put_joined` meets its contract: the records of its entries' pages are gathered, and the page is closed.
 use mathlib.Core.Path.{◌∙◌}
 use native.Mathlib.Omega.{arith}
-use borrow.Author.Rules.{rules}
 use Rattle.tidy.proofs.Gather.{entries-most, under_range, under-few, under_closed}
 use Rattle.tidy.proofs.pages.put_joined.Goals as goal
 

@@ -1,6 +1,5 @@
 -- `pages::put_page` meets its contract: where the page that entry j names has depth l, it is the page that is asked for, and its bytes are copied.
 use mathlib.Core.Path.{sym, ◌∙◌}
-use native.Mathlib.Omega.{arith}
 use Rattle.tidy.proofs.Gather.{under_first, under_own}
 use Rattle.tidy.proofs.pages.put_page.Goals as goal
 

@@ -1,21 +1,13 @@
 -- `put_pages` meets its contract: the first k pages left are written, and then one more; at the end, zeros.
-use mathlib.Core.Path.{◌≡◌, refl, sym, ap, ◌∙◌}
-use Prim.Native.Nat.{◌+◌, ◌-◌, ◌*◌, ◌^◌, ◌≤◌}
-use native.Mathlib.Omega.{arith}
-use lib.ListN.{length, get_or, take}
-use lib.Pow.{pow_mono}
+use mathlib.Core.Path.{◌≡◌}
+use Prim.Native.Nat.{◌-◌, ◌≤◌}
+use lib.ListN.{length, take}
 use Rattle.spec.specs.Basics.{each}
-use Rattle.spec.specs.File.{zero_page}
 use Rattle.spec.specs.Encode.{page_bytes}
 use Rattle.spec.specs.Decode.{file_of}
 use Rattle.spec.specs.Tidy.{pages_left}
-use Rattle.laws.specs.Tools.{each_at}
 use Rattle.laws.specs.Tidy.Entries.{start_of}
-use Rattle.laws.specs.Tidy.Starts.{start-zero}
 use Rattle.wire.specs.Over.{over}
-use Rattle.wire.specs.OverLaws.{length_over}
-use Rattle.tidy.proofs.Known.{run_of}
-use Rattle.tidy.proofs.Table.{run_inside, start-more, small, own_fills, sizes, page_here, part_size, part_back, pages-none, pages-next, pages_all}
 use Rattle.tidy.proofs.pages.put_pages.Given as goal
 
 abbrev pub invariant-loop-k : goal.invariant-loop-k

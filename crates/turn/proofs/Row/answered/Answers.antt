@@ -1,4 +1,3 @@
-use borrow.Author.Rules.{rules}
 use Rattle.turn.specs.Rows.{answered}
 use Rattle.turn.proofs.Row.answered.Goals as goal
 

@@ -1,7 +1,6 @@
 use mathlib.Core.Path.{sym, ◌∙◌}
 use Rattle.laws.specs.Tools.{if-true, if-false}
 use Rattle.turn.specs.Steps.{mem_at_charge}
-use borrow.Author.Rules.{rules}
 use Rattle.turn.proofs.Row.at_charge.Goals as goal
 
 pub returns-then-strikes_out : goal.returns-then-strikes_out

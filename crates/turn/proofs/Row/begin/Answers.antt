@@ -1,5 +1,4 @@
 use Rattle.spec.specs.Turn.{begin}
-use borrow.Author.Rules.{rules}
 use Rattle.turn.proofs.Row.begin.Goals as goal
 
 pub returns-in-Search : goal.returns-in-Search

@@ -4,7 +4,6 @@ use Rattle.spec.specs.declared.Kind.TheVariants.{Insert}
 use Rattle.memory.specs.Memory.{found_in}
 use Rattle.turn.specs.Steps.{mem_decided, mem_refused}
 use Rattle.turn.proofs.Founds.{missing_page, decided_search}
-use borrow.Author.Rules.{rules}
 use Rattle.turn.proofs.Row.decide.Goals as goal
 
 pub place-requires : goal.place-requires
@@ -26,7 +25,7 @@ returns-in-Missing c =
     c.place.ensures
     ∙ sym
     (ap (λ (k : Kind). mem_decided a.shape a.op a.t a.self a.work.now k (found_in a.shape.capacity a.work.now a.x a.op.call)) c.in-Insert.is
-      ∙ ap (mem_decided a.shape a.op a.t a.self a.work.now Insert) (sym c.find_in-found.ensures ∙ c.in-Missing.is))
+    ∙ ap (mem_decided a.shape a.op a.t a.self a.work.now Insert) (sym c.find_in-found.ensures ∙ c.in-Missing.is))
 
 pub returns-in-Charge-found : goal.returns-in-Charge-found
 unfolding mem_decided

@@ -6,7 +6,6 @@ use Rattle.memory.specs.Memory.{page_in}
 use Rattle.turn.specs.Steps.{mem_refused, mem_full}
 use Rattle.turn.proofs.Tests.{if-lt, if-not-lt, if-le, if-not-le}
 use Rattle.turn.proofs.Plans.{split_most}
-use borrow.Author.Rules.{rules}
 use Rattle.turn.proofs.Row.fill.Goals as goal
 
 pub returns-then-shape-least : goal.returns-then-shape-least

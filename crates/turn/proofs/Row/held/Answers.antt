@@ -1,7 +1,6 @@
 use native.Mathlib.Omega.{arith}
 use Prim.Native.Nat.{◌≤◌}
 use Rattle.turn.specs.Steps.{mem_held}
-use borrow.Author.Rules.{rules}
 use Rattle.turn.proofs.Row.held.Goals as goal
 
 pub unlock-requires : goal.unlock-requires

@@ -1,6 +1,5 @@
 use mathlib.Core.Path.{sym, ◌∙◌}
 use Rattle.turn.specs.Steps.{idle_at, idles}
-use borrow.Author.Rules.{rules}
 use Rattle.turn.proofs.Row.idles.Goals as goal
 
 pub is_locked-requires : goal.is_locked-requires

@@ -2,7 +2,6 @@ use mathlib.Core.Path.{sym, ◌∙◌}
 use borrow.Author.Tests.{not-true, not-false}
 use Rattle.laws.specs.Tools.{if-true, if-false}
 use Rattle.turn.specs.Steps.{mem_lock}
-use borrow.Author.Rules.{rules}
 use Rattle.turn.proofs.Row.lock.Goals as goal
 
 pub returns-then-is_locked : goal.returns-then-is_locked

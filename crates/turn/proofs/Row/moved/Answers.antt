@@ -1,5 +1,4 @@
 use Rattle.turn.specs.Rows.{stage_numbers, moved}
-use borrow.Author.Rules.{rules}
 use Rattle.turn.proofs.Row.moved.Goals as goal
 
 pub returns-in-NotBegun : goal.returns-in-NotBegun

@@ -1,7 +1,6 @@
 use mathlib.Core.Path.{sym, ◌∙◌}
 use Rattle.turn.specs.Steps.{mem_placed}
 use Rattle.turn.proofs.Tests.{if-lt, if-not-lt}
-use borrow.Author.Rules.{rules}
 use Rattle.turn.proofs.Row.place.Goals as goal
 
 pub returns-then-page_count-shape : goal.returns-then-page_count-shape

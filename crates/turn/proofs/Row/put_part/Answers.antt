@@ -1,5 +1,4 @@
 use Rattle.turn.specs.Rows.{part_numbers}
-use borrow.Author.Rules.{rules}
 use Rattle.turn.proofs.Row.put_part.Goals as goal
 
 pub returns-in-WriteNew : goal.returns-in-WriteNew

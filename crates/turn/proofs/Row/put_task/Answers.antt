@@ -1,5 +1,4 @@
 use Rattle.turn.specs.Rows.{task_numbers}
-use borrow.Author.Rules.{rules}
 use Rattle.turn.proofs.Row.put_task.Goals as goal
 
 pub returns-in-Verify : goal.returns-in-Verify

@@ -1,7 +1,6 @@
 use mathlib.Core.Path.{sym, ◌∙◌}
 use Rattle.turn.specs.Steps.{mem_looked}
 use Rattle.turn.proofs.Founds.{found_some}
-use borrow.Author.Rules.{rules}
 use Rattle.turn.proofs.Row.read_page.Goals as goal
 
 pub found_at-at-requires : goal.found_at-at-requires

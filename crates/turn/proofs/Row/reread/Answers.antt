@@ -1,7 +1,6 @@
 use mathlib.Core.Path.{sym, ◌∙◌}
 use Rattle.turn.proofs.Tests.{if-eq, if-ne}
 use Rattle.turn.specs.Steps.{mem_reread}
-use borrow.Author.Rules.{rules}
 use Rattle.turn.proofs.Row.reread.Goals as goal
 
 pub returns-then-y-x : goal.returns-then-y-x

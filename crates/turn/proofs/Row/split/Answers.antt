@@ -1,7 +1,6 @@
 use native.Mathlib.Omega.{arith}
 use Prim.Native.Nat.{◌+◌, ◌≤◌}
 use Rattle.turn.specs.Steps.{mem_split}
-use borrow.Author.Rules.{rules}
 use Rattle.turn.proofs.Row.split.Goals as goal
 
 pub write_new-requires : goal.write_new-requires

@@ -1,6 +1,5 @@
 use mathlib.Core.Path.{sym, ◌∙◌}
 use Rattle.turn.specs.Steps.{mem_turn, mem_step}
-use borrow.Author.Rules.{rules}
 use Rattle.turn.proofs.Row.step.Goals as goal
 
 pub read_page-self-requires : goal.read_page-self-requires

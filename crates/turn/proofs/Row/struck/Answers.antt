@@ -1,5 +1,4 @@
 use Rattle.turn.specs.Steps.{mem_struck}
-use borrow.Author.Rules.{rules}
 use Rattle.turn.proofs.Row.struck.Goals as goal
 
 pub returns-in-Charge : goal.returns-in-Charge

@@ -1,5 +1,4 @@
 use Rattle.turn.specs.Steps.{mem_taken}
-use borrow.Author.Rules.{rules}
 use Rattle.turn.proofs.Row.taken.Goals as goal
 
 pub returns : goal.returns

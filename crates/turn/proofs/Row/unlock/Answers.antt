@@ -1,4 +1,3 @@
-use borrow.Author.Rules.{rules}
 use Rattle.turn.proofs.Row.unlock.Goals as goal
 
 pub returns : goal.returns

@@ -1,7 +1,6 @@
 use mathlib.Core.Path.{sym, ◌∙◌}
 use Rattle.turn.specs.Steps.{mem_verified}
 use Rattle.turn.proofs.Tests.{if-eq, if-ne}
-use borrow.Author.Rules.{rules}
 use Rattle.turn.proofs.Row.verify.Goals as goal
 
 pub returns-then-y-x : goal.returns-then-y-x

@@ -3,7 +3,6 @@ use native.Mathlib.Omega.{arith}
 use Rattle.turn.specs.Steps.{home, mem_entry}
 use Rattle.turn.proofs.Tests.{if-eq, if-ne}
 use Rattle.turn.proofs.Plans.{plan_deep}
-use borrow.Author.Rules.{rules}
 use Rattle.turn.proofs.Row.write_entry.Goals as goal
 
 pub after_entry-next-requires : goal.after_entry-next-requires

@@ -1,6 +1,5 @@
 use native.Mathlib.Omega.{arith}
 use Rattle.turn.specs.Steps.{plan, mem_new}
-use borrow.Author.Rules.{rules}
 use Rattle.turn.proofs.Row.write_new.Goals as goal
 
 pub write_new_page-requires : goal.write_new_page-requires

@@ -2,7 +2,6 @@ use mathlib.Core.Path.{sym, ◌∙◌}
 use native.Mathlib.Omega.{arith}
 use Rattle.laws.specs.Tools.{if-true, if-false}
 use Rattle.turn.specs.Steps.{plan, mem_old}
-use borrow.Author.Rules.{rules}
 use Rattle.turn.proofs.Row.write_old.Goals as goal
 
 pub write_old_page-requires : goal.write_old_page-requires

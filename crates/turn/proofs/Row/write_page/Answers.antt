@@ -1,5 +1,4 @@
 use Rattle.turn.specs.Steps.{mem_written}
-use borrow.Author.Rules.{rules}
 use Rattle.turn.proofs.Row.write_page.Goals as goal
 
 pub add_to-requires : goal.add_to-requires

@@ -1,6 +1,5 @@
 use native.Mathlib.Numerals.{add-one}
 use Rattle.turn.specs.Steps.{entry_bit}
-use borrow.Author.Rules.{rules}
 use Rattle.turn.proofs.entries.entry_bit.Goals as goal
 
 pub returns : goal.returns

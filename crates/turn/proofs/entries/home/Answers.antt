@@ -2,7 +2,6 @@ use Prim.Native.Nat.{◌≤◌}
 use native.Mathlib.Omega.{arith}
 use lib.Pow.{pow_mono}
 use Rattle.turn.specs.Steps.{home}
-use borrow.Author.Rules.{rules}
 use Rattle.turn.proofs.entries.home.Goals as goal
 
 pub returns : goal.returns

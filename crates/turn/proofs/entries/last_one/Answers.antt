@@ -1,14 +1,13 @@
 use mathlib.Core.Path.{◌≡◌, sym, ◌∙◌}
 use mathlib.Core.Bool.{true, false, beq}
 use native.Mathlib.Nat.{add-zero, sub-zero}
-use Prim.Native.Nat.{◌+◌, ◌-◌, ◌≤◌}
+use Prim.Native.Nat.{◌+◌, ◌≤◌}
 use native.Mathlib.Omega.{arith}
 use borrow.Author.Tests.{not-true, not-false}
 use Rattle.spec.specs.Key.{bit}
 use Rattle.laws.specs.Key.{bit_of}
-use Rattle.turn.specs.Steps.{entry_bit, last_one}
+use Rattle.turn.specs.Steps.{entry_bit}
 use Rattle.turn.proofs.LastOne.{next, next_le, last_none, last_on, last_here}
-use borrow.Author.Rules.{rules}
 use Rattle.turn.proofs.entries.last_one.Goals as goal
 
 pub loop-k-init : goal.loop-k-init

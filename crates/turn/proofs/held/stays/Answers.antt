@@ -1,6 +1,5 @@
 use Rattle.turn.specs.Steps.{goes}
 use Rattle.turn.proofs.Plans.{plan_end}
-use borrow.Author.Rules.{rules}
 use Rattle.turn.proofs.held.stays.Goals as goal
 
 pub last_one-requires : goal.last_one-requires

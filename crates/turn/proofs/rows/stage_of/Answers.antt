@@ -1,4 +1,3 @@
-use borrow.Author.Rules.{rules}
 use borrow.Author.Tests.{ne_eqb}
 use Rattle.spec.specs.Basics.{if}
 use Rattle.turn.specs.Rows.{stage_in}

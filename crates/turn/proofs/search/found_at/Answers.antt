@@ -1,7 +1,6 @@
 use mathlib.Core.Path.{sym, ◌∙◌}
 use Rattle.turn.specs.Steps.{found_at}
 use Rattle.turn.proofs.Tests.{if-eq, if-ne}
-use borrow.Author.Rules.{rules}
 use Rattle.turn.proofs.search.found_at.Goals as goal
 
 pub returns-then-named-x : goal.returns-then-named-x

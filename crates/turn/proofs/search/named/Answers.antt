@@ -1,5 +1,4 @@
 use Rattle.turn.specs.Steps.{named}
-use borrow.Author.Rules.{rules}
 use Rattle.turn.proofs.search.named.Goals as goal
 
 pub returns : goal.returns

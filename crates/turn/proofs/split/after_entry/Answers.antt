@@ -1,7 +1,6 @@
 use mathlib.Core.Path.{sym}
 use Rattle.turn.specs.Steps.{behind, after_entry}
 use Rattle.turn.proofs.Tests.{if-lt, if-not-lt}
-use borrow.Author.Rules.{rules}
 use Rattle.turn.proofs.split.after_entry.Goals as goal
 
 pub returns-then-j-behind : goal.returns-then-j-behind

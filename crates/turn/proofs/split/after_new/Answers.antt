@@ -1,7 +1,6 @@
 use mathlib.Core.Path.{sym}
 use Rattle.turn.specs.Steps.{after_new}
 use Rattle.turn.proofs.Tests.{if-lt, if-not-lt}
-use borrow.Author.Rules.{rules}
 use Rattle.turn.proofs.split.after_new.Goals as goal
 
 pub returns-then-i-n : goal.returns-then-i-n

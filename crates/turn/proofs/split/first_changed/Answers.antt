@@ -3,7 +3,6 @@ use Prim.Native.Nat.{◌+◌, ◌≤◌}
 use native.Mathlib.Omega.{arith}
 use Rattle.turn.proofs.Plans.{plan_end}
 use Rattle.turn.proofs.Pieces.{OldPiece, old_end, behind_old}
-use borrow.Author.Rules.{rules}
 use Rattle.turn.proofs.split.first_changed.Goals as goal
 
 pub old_piece-q-requires : goal.old_piece-q-requires

@@ -2,7 +2,6 @@ use Prim.Native.Nat.{◌<◌}
 use native.Mathlib.Omega.{arith}
 use Rattle.turn.specs.Steps.{goes}
 use Rattle.turn.proofs.Plans.{plan_end, plan_deep}
-use borrow.Author.Rules.{rules}
 use Rattle.turn.proofs.split.redirect.Goals as goal
 
 pub last_one-k-requires : goal.last_one-k-requires
