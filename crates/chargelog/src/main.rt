@@ -1,8 +1,9 @@
 // Reads a job from standard input, runs it, and prints answers, log and pages, or the refusal.
 #![tactic(auto)]
 
-ghost use Rattle.std.specs.Prelude.{◌≡◌, ◌≤◌, length, OnOk, Err};
+ghost use Rattle.std.specs.Prelude.{◌≡◌, ◌≤◌, length, OnOk, Some, Err};
 ghost use Rattle.std.specs.Io.KnownBytes.{Keeps};
+ghost use Rattle.chargelog.specs.Failure.{message};
 ghost use Rattle.chargelog.specs.Input.{Within, ReadsFirst, Says, Shows, Answers};
 
 use print::Printed;
@@ -26,6 +27,8 @@ enum Failure {
 }
 
 impl fmt::Display for Failure {
+    ghost output = { λ failure. Some (message failure) };
+
     fn fmt<W: fmt::Write>(&self, f: &mut fmt::Formatter<W>) -> fmt::Result {
         match self {
             Failure::NotRead => f.write_str("standard input cannot be read"),
