@@ -1,5 +1,5 @@
-"""Copies of crates in which another text is checked, for .ci/wrong and .ci/edits: a check there begins with what the last check of the crate here kept
-(rt all check), so that only what the other text touches is checked again."""
+"""Copies of crates, in which another text is checked (.ci/wrong, .ci/edits) or commands are run (.ci/documents). A check there begins with what the last
+check of the crate here kept (rt all check), so that only what is other there is checked again."""
 import os, shutil, subprocess
 
 from editfiles import ROOT
@@ -29,15 +29,20 @@ def linked(folder, to, every=False):
     shutil.copytree(folder, to, copy_function=copy)
 
 
-def copy_crate(crate, folder, parts=("src", "specs", "proofs")):
-    """Copies a crate into a copy of the repository, with what was built and kept of it."""
-    here, there = ROOT / "crates" / crate, folder / "crates" / crate
-    for part in parts:
-        if (here / part).is_dir():
-            shutil.copytree(here / part, there / part)
+def copy_work(crate, folder):
+    """Gives the crate of a copy of the repository what was built and kept of it here."""
+    here, there = ROOT / "crates" / crate / "out", folder / "crates" / crate / "out"
     for part in ("rlib", "incremental"):
-        if (here / "out" / part).is_dir():
-            linked(here / "out" / part, there / "out" / part, every=part == "rlib")
+        if (here / part).is_dir():
+            linked(here / part, there / part, every=part == "rlib")
+
+
+def copy_crate(crate, folder):
+    """Copies a crate into a copy of the repository, with what was built and kept of it."""
+    for part in ("src", "specs", "proofs"):
+        if (ROOT / "crates" / crate / part).is_dir():
+            shutil.copytree(ROOT / "crates" / crate / part, folder / "crates" / crate / part)
+    copy_work(crate, folder)
 
 
 def check(folder, crate):
