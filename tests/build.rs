@@ -1,4 +1,4 @@
-//! Where the tests find the library: `rt staticlib NAME` writes it to target/staticlib at the top of the repository.
+//! Where the tests find the library: .ci/build puts it into target/staticlib at the top of the repository.
 
 use std::env;
 use std::path::Path;

@@ -33,7 +33,7 @@ fn chargelog_in_pieces(pieces: &[&[u8]]) -> Vec<u8> {
         .stdout(Stdio::piped())
         .stderr(Stdio::piped())
         .spawn()
-        .expect("chargelog, as rt builds it");
+        .expect("chargelog, as .ci/build leaves it");
     let mut input = child.stdin.take().expect("its standard input");
     for (i, piece) in pieces.iter().enumerate() {
         if i > 0 {
