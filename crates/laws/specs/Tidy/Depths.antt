@@ -18,7 +18,7 @@ use Rattle.laws.specs.Tidy.Tiles.{tiles_some}
 use Rattle.laws.specs.Tidy.Twins.{joined-depth, joined_length}
 use Rattle.laws.specs.Tidy.Left.{is_pair_lem, Left, own, pair, apart, pages_left_lem}
 use Rattle.laws.specs.Tidy.Kept.{twins, left_tiles}
-use Rattle.laws.specs.Tidy.EntriesOf.{low_entries, high-entries, entries_in, left_deep, left_small}
+use Rattle.laws.specs.Tidy.EntriesOf.{low_entries, high_entries, entries_in, left_deep, left_small}
 use Rattle.laws.specs.Tidy.Spans.{held, held_one, few_one, under}
 
 module _ (f : File) where
@@ -154,7 +154,7 @@ module _ (f : File) (ok : FileOk f) where
       let m = many l p xs ys s t r in
       let b : l < g = left_deep f ok s in
       let lo = low_entries g l p b in
-      let hi = high-entries g l p b in
+      let hi = high_entries g l p b in
       let x = rw lo at (along s (half_above (2 * p) r m a (omega arith) (omega arith))) in
       let y = rw hi at (along t (half_above (2 * p + 1) r m a (omega arith) (omega arith))) in
       let end = depths_left f ((p + 1) * 2 ^ (g - l)) in

@@ -21,8 +21,8 @@ twice d l h = let z : d - l ≡ suc (d - suc l) = omega arith in ap (λ n. 2 ^ n
 pub low_entries : (g l p : ℕ) → l < g → 2 * p * 2 ^ (g - suc l) ≡ p * 2 ^ (g - l)
 low_entries g l p h = rw (twice g l h) (omega arith)
 
-pub high-entries : (g l p : ℕ) → l < g → (2 * p + 1 + 1) * 2 ^ (g - suc l) ≡ (p + 1) * 2 ^ (g - l)
-high-entries g l p h = rw (twice g l h) (omega arith)
+pub high_entries : (g l p : ℕ) → l < g → (2 * p + 1 + 1) * 2 ^ (g - suc l) ≡ (p + 1) * 2 ^ (g - l)
+high_entries g l p h = rw (twice g l h) (omega arith)
 
 pub entries_in : (g l p : ℕ) → l ≤ g → p < 2 ^ l → (p + 1) * 2 ^ (g - l) ≤ 2 ^ g
 entries_in g l p h s =

@@ -14,7 +14,7 @@ use Rattle.laws.specs.Tidy.Left.{pages_left_lem}
 use Rattle.laws.specs.Tidy.File.{tidy_ok, tidy_numbered, tidy_keeps}
 use Rattle.laws.specs.Tidy.Kept.{left_tiles, left_right}
 use Rattle.laws.specs.Tidy.Order.{any_order_lem}
-use Rattle.laws.specs.Tidy.EntriesOf.{low_entries, high-entries, tiles_under, entry_from, first_within, first_names, not-before}
+use Rattle.laws.specs.Tidy.EntriesOf.{low_entries, high_entries, tiles_under, entry_from, first_within, first_names, not-before}
 
 -- ---- pages that part a pattern stand so
 
@@ -43,7 +43,7 @@ module _ (d : ℕ) where
   among {l} {p} (halves {xs = xs} {ys = ys} h s t) deep =
       let u : l < d = tiles_under d s (each_left xs ys deep) in
       let low = low_entries d l p u in
-      let high = high-entries d l p u in
+      let high = high_entries d l p u in
       each_append xs ys (each_imp (λ q i. (omega (arith, i.0), omega (arith, i.1))) (among s (each_left xs ys deep)))
       (each_imp (λ q i. (omega (arith, i.0), omega (arith, i.1))) (among t (each_right xs ys deep)))
 

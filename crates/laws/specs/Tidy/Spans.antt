@@ -11,7 +11,7 @@ use Rattle.spec.specs.Proper.{PageNo, FileOk}
 use Rattle.spec.specs.Tidy.{first_entry, join_pages}
 use Rattle.laws.specs.Tools.{if_case, if-true, if-false}
 use Rattle.laws.specs.Tidy.Entries.{page_on, records_at, records_before, records_under}
-use Rattle.laws.specs.Tidy.EntriesOf.{low_entries, high-entries, front, left_deep, range_page}
+use Rattle.laws.specs.Tidy.EntriesOf.{low_entries, high_entries, front, left_deep, range_page}
 use Rattle.laws.specs.Tidy.Twins.{joined_length}
 use Rattle.laws.specs.Tidy.Left.{is_pair_lem, pair_is, Left, own, pair, apart}
 use Rattle.laws.specs.Tidy.Kept.{twins, left_tiles}
@@ -137,7 +137,7 @@ module _ (f : File) (ok : FileOk f) where
   span_halves : (l p m n : ℕ) → l < g → Span (suc l) (2 * p) m → Span (suc l) (2 * p + 1) n → Span l p (m + n)
   span_halves l p m n h u v =
       let a = rw (low_entries g l p h) at u in
-      let b = rw (high-entries g l p h) at v in
+      let b = rw (high_entries g l p h) at v in
       omega arith
 
   pub span : {l p : ℕ} {ps : List Page} → Left f l p ps → records_before f ((p + 1) * 2 ^ (g - l)) ≡ records_before f (p * 2 ^ (g - l)) + held ps
