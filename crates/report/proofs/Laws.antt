@@ -12,7 +12,7 @@ use Rattle.spec.specs.Job.{no_op}
 use Rattle.spec.specs.Decode.{op_of, page_of}
 use Rattle.spec.specs.Result.{Told, answer_of}
 use Rattle.spec.specs.Report.{op_line, op_lines, page_line, page_lines}
-use Rattle.laws.specs.Codec.Tools.{get_d_map}
+use Rattle.laws.specs.Codec.Tools.{get_or_map}
 use Rattle.laws.specs.Codec.Parts.{length-parts, part_at}
 use Rattle.text.specs.Sections.{parts_more}
 
@@ -42,7 +42,7 @@ op-more m n s t h =
     (op_last 0 (map op_of (parts m 10 s)) (map answer_of (parts n 8 t)) (answer_of (take 8 (drop (8 * n) t)))
     ∙ rw (length-map, length-parts, zero-add)
     (ap (λ (o : Op). op_lines 0 (map op_of (parts m 10 s)) (map answer_of (parts n 8 t)) ++ op_line n o (answer_of (take 8 (drop (8 * n) t))))
-    (get_d_map op_of (parts m 10 s) n [] no_op (rw length-parts h) ∙ ap op_of (part_at m 10 s n h))))
+    (get_or_map op_of (parts m 10 s) n [] no_op (rw length-parts h) ∙ ap op_of (part_at m 10 s n h))))
 
 -- n pages are told, and then one more
 pub page-more

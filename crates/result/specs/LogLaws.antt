@@ -12,7 +12,7 @@ use Rattle.spec.specs.Code.{not_yet}
 use Rattle.spec.specs.State.{Row}
 use Rattle.spec.specs.Result.{Line, is_at, lines_at, lines_from}
 use Rattle.laws.specs.Tools.{if_case, if-true, if-false, if_ap, each_append, each_at, each_imp}
-use Rattle.laws.specs.Codec.Tools.{each_imp₂ as Each-both}
+use Rattle.laws.specs.Codec.Tools.{each_imp₂ as each_both}
 use Rattle.laws.specs.Turns.Log.{Marked, marked, unmarked}
 use Rattle.result.specs.Lines.{line, seat, placed}
 
@@ -75,7 +75,7 @@ unfolding lines_from
 from-small zero t rs = end
 from-small (suc n) t rs =
     each_append (lines_at t rs 0) _
-    (Each-both (λ l e h. (omega arith, omega arith)) (at_moment t rs 0) (at_op t rs 0))
+    (each_both (λ l e h. (omega arith, omega arith)) (at_moment t rs 0) (at_op t rs 0))
     (each_imp (λ l h. (omega (arith, h.0), h.1)) (from-small n (suc t) rs))
 
 -- no operations, no lines

@@ -12,7 +12,7 @@ use Rattle.spec.specs.Job.{page_size, page_place}
 use Rattle.spec.specs.Encode.{page_bytes, header_for}
 use Rattle.spec.specs.Decode.{page_parts, file_of, job_of}
 use Rattle.spec.specs.Check.{work_size}
-use Rattle.laws.specs.Codec.Tools.{get_d_map}
+use Rattle.laws.specs.Codec.Tools.{get_or_map}
 use Rattle.laws.specs.Codec.Rows.{counted}
 use Rattle.laws.specs.Codec.Forth.{encode-decode}
 use Rattle.laws.specs.Codec.Sections.{head_of, pages-written}
@@ -69,7 +69,7 @@ module _ {h : Header} {b : List ℕ} (a : Accepts h b) where
   page-bytes k l =
       let many : k < length (drop 1 (job_of b).file.table) = rw length-drop (omega (arith, (proper a).file.fit.pages, pages_are a)) in
       ap (page_bytes h.capacity) (sym (page_behind (job_of b).file k))
-      ∙ sym (get_d_map (page_bytes h.capacity) (drop 1 (job_of b).file.table) k zero_page [] many)
+      ∙ sym (get_or_map (page_bytes h.capacity) (drop 1 (job_of b).file.table) k zero_page [] many)
       ∙ ap (λ (ps : List (List ℕ)). get_or ps k []) (sym parts_are)
       ∙ page_part (counts_of h) b k l
 

@@ -14,7 +14,7 @@ use Rattle.spec.specs.Job.{kind_number, op_size, no_op}
 use Rattle.spec.specs.Encode.{op_bytes}
 use Rattle.spec.specs.SwitchLog.{Logged, no_logged, switch_log}
 use Rattle.spec.specs.Tariff.{Band, bands_of, charge_of, insert_for, inserts, insert_bytes}
-use Rattle.laws.specs.Codec.Tools.{get_d_map}
+use Rattle.laws.specs.Codec.Tools.{get_or_map}
 use Rattle.laws.specs.Codec.Parts.{each_snoc}
 use Rattle.laws.specs.Codec.Sections.{length-ops}
 use Rattle.laws.specs.Priced.{inserts-count}
@@ -48,7 +48,7 @@ insert_for_lem bands r call charge e f = rw (e, f)
 module _ (t l : List ℕ) where
   insert_at : (i : ℕ) → i < length (switch_log l) → get_or (inserts t l) i no_op ≡ insert_for (bands_of t) (get_or (switch_log l) i no_logged)
   unfolding inserts
-  insert_at i u = get_d_map (insert_for (bands_of t)) (switch_log l) i no_logged no_op u
+  insert_at i u = get_or_map (insert_for (bands_of t)) (switch_log l) i no_logged no_op u
 
   -- the first i of them stand in the buffer, which was s
   abbrev pub Put : List ℕ → ℕ → List ℕ → Type 0

@@ -10,7 +10,7 @@ use Rattle.spec.specs.Bytes.{byte, word, parts}
 use Rattle.spec.specs.File.{entry_at}
 use Rattle.spec.specs.Job.{Header, entry_size, record_size, page_size, op_size, turn_size, directory_offset, table_offset, ops_offset, turns_offset, entry_place, page_place, op_place, turn_place}
 use Rattle.spec.specs.Decode.{header_of, entry_parts, page_parts, op_parts, turn_parts, number_of, record_of, page_of, file_of, job_of}
-use Rattle.laws.specs.Codec.Tools.{get_d_map}
+use Rattle.laws.specs.Codec.Tools.{get_or_map}
 use Rattle.laws.specs.Codec.Parts.{length-parts, part_place, word_in}
 
 module _ (h : Header) (b : List ℕ) where
@@ -49,4 +49,4 @@ turn_there b t l = ListN.get_or-map number_of (turn_parts (header_of b) b) t [] 
 pub record_part : (s : List ℕ) (i : ℕ) (d : Rec) → i < byte s 1 → get_or (page_of s).records i d ≡ record_of (take record_size (drop (4 + record_size * i) s))
 unfolding page_of
 record_part s i d l =
-    get_d_map record_of (parts (byte s 1) 8 (drop 4 s)) i [] d (rw length-parts l) ∙ ap record_of (part_place (byte s 1) 8 4 s i l)
+    get_or_map record_of (parts (byte s 1) 8 (drop 4 s)) i [] d (rw length-parts l) ∙ ap record_of (part_place (byte s 1) 8 4 s i l)

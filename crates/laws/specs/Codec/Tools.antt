@@ -108,10 +108,10 @@ rows_split (q ∷ front) r back b = rw (rows_split front r back b) (or_else_asso
 pub ruleset failed = (or_no, and_no, not_no, not_yes, ltb_no, ltb_yes, leb_no, eqb_no, eqb_yes, outside_no, when-none)
 
 -- lists
-pub get_d_map : {A B : Type 0} (f : A → B) (l : List A) (k : ℕ) (d : A) (e : B) → k < length l → get_or (map f l) k e ≡ f (get_or l k d)
-get_d_map f [] k d e u = absurd (omega arith)
-get_d_map f (x ∷ l) zero d e u = refl
-get_d_map f (x ∷ l) (suc k) d e u = get_d_map f l k d e (omega arith)
+pub get_or_map : {A B : Type 0} (f : A → B) (l : List A) (k : ℕ) (d : A) (e : B) → k < length l → get_or (map f l) k e ≡ f (get_or l k d)
+get_or_map f [] k d e u = absurd (omega arith)
+get_or_map f (x ∷ l) zero d e u = refl
+get_or_map f (x ∷ l) (suc k) d e u = get_or_map f l k d e (omega arith)
 
 -- every member of a list
 module _ {A : Type 0} where

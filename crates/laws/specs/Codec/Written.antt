@@ -16,7 +16,7 @@ use Rattle.spec.specs.Decode.{header_of, job_of}
 use Rattle.spec.specs.Check.{wrong_entry, wrong_page, wrong_owner, wrong_record, wrong_op, wrong_turn, job_fault}
 use Rattle.spec.specs.Proper.{PageOk, FileOk}
 use Rattle.laws.specs.Tools.{each_imp}
-use Rattle.laws.specs.Codec.Tools.{get_d_map, each_map, each_places}
+use Rattle.laws.specs.Codec.Tools.{get_or_map, each_map, each_places}
 use Rattle.laws.specs.Codec.Numbers.{word_two, long_four}
 use Rattle.laws.specs.Codec.Zeros.{zeros, zeros_replicate}
 use Rattle.laws.specs.Codec.Rows.{accepted-rows, Limits, limits_said, Laid, header_said}
@@ -131,7 +131,7 @@ module _ (j : Job) (P : JobProper j) where
 
       passes : (k : ℕ) → k < length ps → PageFine (head_of j) (suc k) (get_or (map (page_bytes j.file.c) ps) k [])
       passes k l =
-          rw (get_d_map (page_bytes j.file.c) ps k zero_page [])
+          rw (get_or_map (page_bytes j.file.c) ps k zero_page [])
           (page_passes (head_of j) (suc k) (get_or ps k zero_page) ((each_places ps zero_page).0 (pages_proper j.file ok) k l)
           ((each_places ps zero_page).0 fits.file.pages k l).pattern
           (λ u. page_behind j.file k ∙ ok.unused (suc k) (λ n. omega arith)))

@@ -217,13 +217,13 @@ last_split f op x e = last_one f.g op.call e (new_count f op x) (page_at f x).de
 
 module _ (f : File) (op : Op) (x : ℕ) (fit : Fit f) (ok : PageOk f.g f.c (page_at f x)) (pl : Plan f op x) where
   -- where an entry that the page's pattern begins goes
-  Goes-by
+  goes_by
       : (b e : ℕ)
       → e < 2 ^ f.g
       → begins f.g (page_at f x).depth (page_at f x).pattern e ≡ true
       → goes_to f op x b e ≡ by_last b (last_split f op x e)
   unfolding goes_to plan_of new_count
-  Goes-by b e l h =
+  goes_by b e l h =
       new_owner_by f.g f.c (suc f.g) b (page_at f x) (rec_of op) e fit.depth (omega (arith, fit.depth, ok.deep))
       (each_imp (λ q m. m.ok.deep) (made f op x fit ok pl)) l h
 
@@ -231,7 +231,7 @@ module _ (f : File) (op : Op) (x : ℕ) (fit : Fit f) (ok : PageOk f.g f.c (page
   pub goes_last : (b e : ℕ) → e < 2 ^ f.g → (goes_to f op x b e ≡ 0 → ⊥) → (goes_to f op x b e ≡ b + last_split f op x e) × (0 < last_split f op x e)
   goes_last b e l n =
       let r = goes_in f op x fit ok pl b e l n in
-      let g = Goes-by b e l (interval_begins f op x fit ok pl e r.0 r.1) in
+      let g = goes_by b e l (interval_begins f op x fit ok pl e r.0 r.1) in
       by_cases (ℕ_discrete (last_split f op x e) 0) (λ z. absurd (n (g ∙ by_last_zero b _ z)))
       (λ z. (g ∙ by_last_one b _ z, omega arith))
 
@@ -244,4 +244,4 @@ module _ (f : File) (op : Op) (x : ℕ) (fit : Fit f) (ok : PageOk f.g f.c (page
   )
     where
       g : goes_to f op x b (home_of f op) ≡ by_last b (last_split f op x (home_of f op))
-      g = Goes-by b (home_of f op) (index_in f fit op.call) (in_begins f.g (page_at f x) op.call ok.deep (fit_32 f fit) pl.here)
+      g = goes_by b (home_of f op) (index_in f fit op.call) (in_begins f.g (page_at f x) op.call ok.deep (fit_32 f fit) pl.here)

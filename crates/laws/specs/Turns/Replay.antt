@@ -73,13 +73,13 @@ pub data Runs (ops : List Op) (s : State) : List Line → List Rec → List Rec 
       → Runs ops s hs (Ask (get_or ops h.op no_op) (row_of s h.op).code l).list l'
       → Runs ops s (h ∷ hs) l l'
 
-Runs-append
+runs_append
     : {ops : List Op} {s : State} {xs ys : List Line} {a b c : List Rec}
     → Runs ops s xs a b
     → Runs ops s ys b c
     → Runs ops s (xs ++ ys) a c
-Runs-append stop r = r
-Runs-append (feed e g q) r = feed e g (Runs-append q r)
+runs_append stop r = r
+runs_append (feed e g q) r = feed e g (runs_append q r)
 
 module _ (H : ℕ → ℕ → Option Rec) (W F : ℕ → ℕ) (ops : List Op) (s : State)
     (right : (i : ℕ) → ((row_of s i).code ≡ not_yet → ⊥) → RowRight H W (F i) i (get_or ops i no_op) s.now (row_of s i))
@@ -182,7 +182,7 @@ module _ (H : ℕ → ℕ → Option Rec) (W F : ℕ → ℕ) (ops : List Op) (s
           let all : (m : ℕ) → get_or s.rows m gone ≡ row_of s (0 + m) = λ m. ap (λ i. get_or s.rows i gone) (omega arith) in
           let w = moment t s.rows 0 (length s.rows) l all (omega arith) (λ k. inl (a k, λ e q h. absurd (omega arith))) in
           let v = lines n (suc t) w.0 (omega arith) (λ k. after t w.0 k (omega arith) (w.2 k)) in
-          (v.0, Runs-append w.1 v.1, λ k. v.2 k ∙ ap (λ i. H i k) (omega arith))
+          (v.0, runs_append w.1 v.1, λ k. v.2 k ∙ ap (λ i. H i k) (omega arith))
         where
           -- all have been fed
           after : (t : ℕ) (l : List Rec) (k : ℕ) → t < s.now → MidOf t (length s.rows) l k → find_in l k ≡ H (suc t) k
