@@ -64,7 +64,8 @@ def joined(name, believed):
 
 def kit_names():
     """The dashed names that the kit's library defines."""
-    kit = pathlib.Path("/opt/rattle/rattle")
+    page = subprocess.run(["rt", "doc"], check=True, capture_output=True, text=True).stdout.strip()
+    kit = pathlib.Path(page).parent / "rattle"
     names = set()
     for path in kit.rglob("*.antt"):
         for token in TOKEN.findall(path.read_text(errors="replace")):
