@@ -36,9 +36,19 @@ def must_fail():
     return [read(path.parent.parent.name, path) for path in sorted((ROOT / "crates").glob("*/must-fail/*.edit"))]
 
 
+def below():
+    """Those in the folders of tests/edits, each with its crate."""
+    return [read(path.parent.name, path) for path in sorted((ROOT / "tests/edits").glob("*/*.edit"))]
+
+
+def is_definition(edit):
+    """Of `spec` the definitions are edited, and the little code that it has."""
+    return edit.crate == "spec" and any(file.startswith("specs/") for file, _, _ in edit.pairs)
+
+
 def finer():
     """The wrong programs that rt ci does not try."""
-    return [read(path.parent.name, path) for path in sorted((ROOT / "tests/edits").glob("*/*.edit")) if path.parent.name != "spec"]
+    return [edit for edit in below() if not is_definition(edit)]
 
 
 def wrong_programs():
@@ -53,7 +63,7 @@ def by_theorems():
 
 def by_tables():
     """The wrong definitions that .ci/edits puts to the tables of spec."""
-    return [read("spec", path) for path in sorted((ROOT / "tests/edits/spec").glob("*.edit"))]
+    return [edit for edit in below() if is_definition(edit)]
 
 
 def heads(lines):

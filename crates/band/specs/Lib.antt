@@ -1,4 +1,6 @@
--- what the contracts cite, and the largest charge there is
+-- what the contracts cite
+pub mod Read
+-- the largest charge there is
 pub mod Largest
 -- the hour table is the definition's class
 pub mod Hours

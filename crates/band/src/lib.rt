@@ -1,104 +1,104 @@
-// What a call costs by its band: the class of its hour, the started units, the charge. A band is 20 bytes, read where it stands.
+// What a call costs by its band: the class of its hour, the started units, the charge.
 #![tactic(auto)]
 
-ghost use Rattle.std.specs.Prelude.{◌≡◌, ◌≤◌, ◌<◌, length};
-ghost use Rattle.spec.specs.SwitchLog.{logged_size, logged_of};
-ghost use Rattle.spec.specs.Tariff.{band_size, band_of, min_unit, hour_class, price_at, started_units, due, charge_in};
+ghost use Rattle.std.specs.Prelude.{◌≡◌, ◌≤◌, ◌<◌, map};
+ghost use Rattle.spec.specs.Tariff.{band_of, bands_of, min_unit, hour_class, price_at, started_units, charge_in};
+ghost use Rattle.switchlog.specs.Read.{logged_in};
+ghost use Rattle.band.specs.Read.{band_in, class_number};
 ghost use Rattle.band.specs.Largest.{max_long};
 
-// ---- the fields of a band
+use switchlog::Logged;
 
-pub fn code(band: &[u8]) -> usize
-    requires { length band.now ≡ band_size }
-    ensures { (result ≡ (band_of band.now).code) × (result < 256) }
-{
-    wire::u8_at(band, 0)
+// A band of a tariff: "code (1), free seconds (1), unit in seconds (2, from 1 to 3,600), connection fee (4), and price for each started unit in the
+// cheap, standard and dear class (4 each)".
+#[derive(Clone, Copy)]
+pub struct Band {
+    pub code: u8,
+    pub free: u8,
+    pub unit: u16,
+    pub fee: u32,
+    pub prices: [u32; 3],
 }
 
-fn free(band: &[u8]) -> usize
-    requires { length band.now ≡ band_size }
-    ensures { result ≡ (band_of band.now).free }
-{
-    wire::u8_at(band, 1)
+// The hours are of three classes, and a band has a price for each.
+#[derive(Clone, Copy)]
+enum Class {
+    Cheap,
+    Standard,
+    Dear,
 }
 
-pub fn unit(band: &[u8]) -> usize
-    requires { length band.now ≡ band_size }
-    ensures { (result ≡ (band_of band.now).unit) × (result < 65536) }
-{
-    wire::u16_at(band, 2)
-}
-
-fn fee(band: &[u8]) -> u32
-    requires { length band.now ≡ band_size }
-    ensures { result ≡ (band_of band.now).fee }
-{
-    wire::u32_at(band, 4)
-}
-
-// ---- the hour
-
-// The classes, by their places among a band's prices.
-const CHEAP: usize = 0;
-
-const STANDARD: usize = 1;
-
-const DEAR: usize = 2;
+use Class::{Cheap, Dear, Standard};
 
 // "The class of each of the 24 hours is fixed: 0 to 6 and 20 to 23 cheap, 7, 18 and 19 standard, 8 to 17 dear"
-const CLASSES: [usize; 24] = [
-    CHEAP, CHEAP, CHEAP, CHEAP, CHEAP, CHEAP, CHEAP, STANDARD, DEAR, DEAR, DEAR, DEAR, DEAR, DEAR,
-    DEAR, DEAR, DEAR, DEAR, STANDARD, STANDARD, CHEAP, CHEAP, CHEAP, CHEAP,
+const CLASSES: &[Class; 24] = &[
+    Cheap, Cheap, Cheap, Cheap, Cheap, Cheap, Cheap, Standard, Dear, Dear, Dear, Dear, Dear, Dear,
+    Dear, Dear, Dear, Dear, Standard, Standard, Cheap, Cheap, Cheap, Cheap,
 ];
 
-fn class(hour: usize) -> usize
-    requires { hour < 24 }
-    ensures { (result ≡ hour_class hour) × (result ≤ 2) }
-{
-    CLASSES[hour]
-}
-
-// "The start's hour counts: start over 3,600, rounded down, modulo 24"
-fn price(band: &[u8], start: usize) -> usize
-    requires { length band.now ≡ band_size }
-    ensures { (result ≡ price_at (band_of band.now) start) × (result ≤ max_long) }
-{
-    let k = class(start / 3600 % 24);
-    wire::u32_at(band, 8 + 4 * k) as usize
-}
-
-// ---- the charge
-
-// "the started units beyond the free seconds"
-fn units(band: &[u8], talked: usize) -> usize
-    requires { (length band.now ≡ band_size) × (min_unit ≤ (band_of band.now).unit) × (talked ≤ max_long) }
-    ensures { (result ≡ started_units (band_of band.now) talked) × (result ≤ max_long) }
-{
-    let free = free(band);
-    if talked <= free {
-        return 0;
+impl Class {
+    fn of(hour: usize) -> Class
+        requires { hour < 24 }
+        ensures { class_number result ≡ hour_class hour }
+    {
+        CLASSES[hour]
     }
-    let unit = unit(band);
-    (talked - free + (unit - 1)) / unit
 }
 
-// "the fee, plus price times the started units": at most 2^64 − 2^32
-fn due(band: &[u8], start: usize, talked: usize) -> usize
-    requires { (length band.now ≡ band_size) × (min_unit ≤ (band_of band.now).unit) × (talked ≤ max_long) }
-    ensures { result ≡ due (band_of band.now) start talked }
-{
-    let fee = fee(band) as usize;
-    fee + price(band, start) * units(band, talked)
-}
+impl Band {
+    // "bands of 20 bytes"
+    pub const SIZE: usize = 20;
 
-// "No seconds talked costs nothing. Otherwise the charge is .."
-pub fn charge(band: &[u8], logged: &[u8]) -> usize
-    requires { (length band.now ≡ band_size) × (length logged.now ≡ logged_size) × (min_unit ≤ (band_of band.now).unit) }
-    ensures { result ≡ charge_in (band_of band.now) (logged_of logged.now) }
-{
-    let talked = switchlog::talked(logged) as usize;
-    if talked == 0 {
-        return 0;
+    #[tactic(auto, unfolding(spec::specs::Tariff::band_of, spec::specs::Bytes::byte))]
+    pub fn read(bytes: &[u8; Band::SIZE]) -> Band
+        ensures { band_in result ≡ band_of bytes.now }
+    {
+        Band {
+            code: bytes[0],
+            free: bytes[1],
+            unit: wire::u16_at(bytes, 2) as u16,
+            fee: wire::u32_at(bytes, 4),
+            prices: [
+                wire::u32_at(bytes, 8),
+                wire::u32_at(bytes, 12),
+                wire::u32_at(bytes, 16),
+            ],
+        }
     }
-    due(band, switchlog::start(logged) as usize, talked)
+
+    // "The start's hour counts: start over 3,600, rounded down, modulo 24"
+    #[tactic(auto, unfolding(spec::specs::Tariff::price_at, spec::specs::Tariff::hour_of))]
+    fn price(self, start: u32) -> u32
+        ensures { result ≡ price_at (band_in self) start }
+    {
+        self.prices[Class::of(start as usize / 3600 % 24) as usize]
+    }
+
+    // "the started units beyond the free seconds"
+    fn units(self, talked: u32) -> usize
+        requires { min_unit ≤ self.unit }
+        ensures { (result ≡ started_units (band_in self) talked) × (result ≤ max_long) }
+    {
+        let beyond = talked.saturating_sub(self.free as u32) as usize;
+        let unit = self.unit as usize;
+        (beyond + (unit - 1)) / unit
+    }
+
+    // "No seconds talked costs nothing. Otherwise the charge is .. the fee, plus price times the started units": at most 2^64 − 2^32
+    pub fn charge(self, logged: Logged) -> usize
+        requires { min_unit ≤ self.unit }
+        ensures { result ≡ charge_in (band_in self) (logged_in logged) }
+    {
+        if logged.talked == 0 {
+            return 0;
+        }
+        self.fee as usize + self.price(logged.start) as usize * self.units(logged.talked)
+    }
+}
+
+// The bytes of each band. A tariff that is not whole bands has more behind the last.
+pub fn bands(tariff: &[u8]) -> &[[u8; Band::SIZE]]
+    ensures { map band_of result.now ≡ bands_of tariff.now }
+{
+    tariff.as_chunks().0
 }

@@ -2,14 +2,15 @@
 use Prim.Native.Nat.{ℕ}
 use mathlib.Core.Path.{◌≡◌, refl, sym, ap, subst, ◌∙◌}
 use mathlib.Core.Logic.{◌↔◌}
-use mathlib.Core.List.{List}
-use mathlib.Core.Option.{Option, none, some, none-ne-some}
+use mathlib.Core.List.{List, []}
+use Rattle.std.specs.Prelude.{Option, None, Some, Result, Ok, Err}
+use Rattle.std.specs.Result.{result_and}
+use Rattle.std.proofs.lemmas.Option.{none-some}
 use lib.ListN.{length}
-use Rattle.spec.specs.declared.Outcome.{Outcome}
-use Rattle.spec.specs.declared.Outcome.TheVariants.{Done, Refused}
+use Rattle.spec.specs.declared.Refusal.{Refusal}
 use Rattle.spec.specs.Check.{Fault, job_fault}
-use Rattle.spec.specs.Cases.{checked_of}
-use Rattle.spec.specs.Outcome.{outcome_by, outcome}
+use Rattle.spec.specs.Cases.{told, fault_in}
+use Rattle.spec.specs.Outcome.{Outcome, outcome_by, outcome}
 use Rattle.spec.specs.Deal.{deal_outcome}
 use Rattle.spec.specs.Tidy.{tidy_outcome}
 use Rattle.spec.specs.Tariff.{price_outcome}
@@ -23,41 +24,44 @@ use Rattle.deal.specs.Call.{Settled as DealSettled}
 use Rattle.tidy.specs.Call.{Settled as TidySettled}
 use Rattle.tariff.specs.Call.{Settled as PriceSettled}
 use Rattle.chargefile.specs.declared.CallOutcome.{CallOutcome}
-use Rattle.chargefile.specs.Handed.{handed, outcome_of}
+use Rattle.chargefile.specs.Handed.{handed}
 use Rattle.chargefile.specs.Called.{CheckCalled, HandedOver, Called, DealCalled, TidyCalled, PriceCalled}
 
 -- an outcome that goes by a fault, whose number is not 0
-zero-none
-    : (o : Option Fault) (by : Option Fault → Outcome) {k : ℕ}
-    → by none ≡ Done k
-    → ((f : Fault) → by (some f) ≡ Refused f.number f.place)
-    → Numbered o
-    → ((handed (by o)).refusal ≡ 0) ↔ (o ≡ none)
-unfolding handed
-zero-none none by n s z = (λ e. refl, λ e. ap (λ (v : Outcome). (handed v).refusal) n)
-zero-none (some f) by n s z =
-    (λ e. absurd (z f refl (sym (ap (λ (v : Outcome). (handed v).refusal) (s f)) ∙ e)), λ e. absurd (none-ne-some _ (sym e)))
+zero-none : (o : Option Fault) (output : List ℕ) → Numbered o → ((handed (outcome_by o output)).refusal ≡ 0) ↔ (o ≡ None)
+unfolding handed outcome_by
+zero-none None output z = (λ e. refl, λ e. refl)
+zero-none (Some f) output z = (λ e. absurd (z f refl e), λ e. absurd (none-some _ (sym e)))
 
-check_zero : (b : List ℕ) → ((handed (outcome_of (checked_of (job_fault b)))).refusal ≡ 0) ↔ (job_fault b ≡ none)
-unfolding outcome_of checked_of
-check_zero b = zero-none (job_fault b) (λ o. outcome_of (checked_of o)) refl (λ f. refl) (job-numbered b)
+-- a check's answer: where it is accepted, it is done with no output
+checked : {A : Type 0} (r : Result A Refusal) → told (result_and r (Ok 0)) ≡ outcome_by (fault_in r) []
+unfolding outcome_by
+checked (Ok x) = refl
+checked (Err e) = refl
 
--- a check's answer, handed over
-pub check_called : (b : List ℕ) {r : CallOutcome} → r ≡ handed (outcome_of (checked_of (job_fault b))) → CheckCalled b r
-check_called b e =
-    record { handed = e; accepted = subst (λ (v : CallOutcome). (v.refusal ≡ 0) ↔ (job_fault b ≡ none)) (sym e) (check_zero b) }
+-- handed over
+pub check_called
+    : {A : Type 0} (b : List ℕ) (a : Result A Refusal) {o : Result ℕ Refusal} {r : CallOutcome}
+    → fault_in a ≡ job_fault b
+    → o ≡ result_and a (Ok 0)
+    → r ≡ handed (told o)
+    → CheckCalled b r
+check_called b a {r = r} f m e =
+    let h : r ≡ handed (outcome_by (job_fault b) []) = e ∙ ap handed (ap told m ∙ checked a ∙ ap (λ (q : Option Fault). outcome_by q []) f) in
+    record {
+      handed = h;
+      accepted = subst (λ (v : CallOutcome). (v.refusal ≡ 0) ↔ (job_fault b ≡ None)) (sym h) (zero-none (job_fault b) [] (job-numbered b));
+    }
 
 -- a call's outcome o, handed over: it goes by a fault, whose number is not 0
 module _ {S : Outcome → Type 0} (fault : Option Fault) (output : List ℕ) (z : Numbered fault) where
   handed_over : {r : CallOutcome} (o : Outcome) → o ≡ outcome_by fault output → S o → r ≡ handed o → HandedOver S (outcome_by fault output) fault r
-  unfolding outcome_by
   handed_over o a h e =
       let f = e ∙ ap handed a in
       record {
         settled = subst S a h;
         handed = f;
-        accepted =
-            subst (λ (v : CallOutcome). (v.refusal ≡ 0) ↔ (fault ≡ none)) (sym f) (zero-none fault (λ q. outcome_by q output) refl (λ q. refl) z);
+        accepted = subst (λ (v : CallOutcome). (v.refusal ≡ 0) ↔ (fault ≡ None)) (sym f) (zero-none fault output z);
       }
 
 module _ {b s t : List ℕ} {x y : List Row} {w u : List ℕ} {r : CallOutcome} (o : Outcome) where

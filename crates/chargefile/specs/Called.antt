@@ -1,10 +1,7 @@
 -- What the calls come to for a C or Rust program: the numbers that it gets, and the whole outcome of a check, a run, of dealing, tidying and pricing.
-use Rattle.std.specs.Prelude.{ℕ, ◌≡◌, ◌↔◌, List, length}
-use Rattle.std.proofs.Math.Option.{Option, none}
-use Rattle.spec.specs.declared.Outcome.{Outcome}
+use Rattle.std.specs.Prelude.{ℕ, ◌≡◌, ◌↔◌, List, [], length, Option, None}
 use Rattle.spec.specs.Check.{Fault, job_fault, first_fault}
-use Rattle.spec.specs.Cases.{checked_of}
-use Rattle.spec.specs.Outcome.{outcome}
+use Rattle.spec.specs.Outcome.{Outcome, outcome_by, outcome}
 use Rattle.spec.specs.Deal.{deal_fault, deal_outcome}
 use Rattle.spec.specs.Tidy.{tidy_fault, tidy_outcome}
 use Rattle.spec.specs.Tariff.{tariff_fault, price_outcome}
@@ -14,19 +11,19 @@ use Rattle.deal.specs.Call.{Settled as DealSettled}
 use Rattle.tidy.specs.Call.{Settled as TidySettled}
 use Rattle.tariff.specs.Call.{Settled as PriceSettled}
 use Rattle.chargefile.specs.declared.CallOutcome.{CallOutcome}
-use Rattle.chargefile.specs.Handed.{handed, outcome_of}
+use Rattle.chargefile.specs.Handed.{handed}
 
--- The check of the bytes b; r is returned. Refusal 0 is told exactly when no row of the refusal table about a job's bytes holds
+-- The check of the bytes b, which writes no output; r is returned. Refusal 0 is told exactly when no row of the refusal table about a job's bytes holds
 pub record CheckCalled (b : List ℕ) (r : CallOutcome) : Type 0 where
-  pub handed : r ≡ handed (outcome_of (checked_of (job_fault b)))
-  pub accepted : (r.refusal ≡ 0) ↔ (job_fault b ≡ none)
+  pub handed : r ≡ handed (outcome_by (job_fault b) [])
+  pub accepted : (r.refusal ≡ 0) ↔ (job_fault b ≡ None)
 
 -- A call that writes an output, and r is returned: all that its contract settles, with the outcome that its definition gives; the numbers of that
 -- outcome; and refusal 0 is told exactly when nothing is refused
 pub record HandedOver (settles : Outcome → Type 0) (outcome : Outcome) (fault : Option Fault) (r : CallOutcome) : Type 0 where
   pub settled : settles outcome
   pub handed : r ≡ handed outcome
-  pub accepted : (r.refusal ≡ 0) ↔ (fault ≡ none)
+  pub accepted : (r.refusal ≡ 0) ↔ (fault ≡ None)
 
 -- The run of the bytes b; result buffer, table and memory before (s, x, w) and after (t, y, u)
 abbrev pub Called : List ℕ → List ℕ → List ℕ → List Row → List Row → List ℕ → List ℕ → CallOutcome → Type 0

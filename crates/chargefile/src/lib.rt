@@ -2,14 +2,15 @@
 #![tactic(auto)]
 
 ghost use Rattle.std.specs.Prelude.{◌≡◌};
-ghost use Rattle.chargefile.specs.Handed.{outcome_of, handed};
+ghost use Rattle.spec.specs.Cases.{told};
+ghost use Rattle.chargefile.specs.Handed.{handed};
 ghost use Rattle.chargefile.specs.Called.{CheckCalled, Called, DealCalled, TidyCalled, PriceCalled};
 
-use spec::{Checked, Outcome};
+use spec::Refusal;
 use turn::Row;
 
 // What a call comes to. refusal 0: done, and length is the output's; else its number, with place, and length 0.
-// It is given by value, so that a refused call has written to no lent memory whatever.
+// It is given by value, so that a refused call has written to no lent memory whatever. (Numbers, and no `Result`: C reads it.)
 #[repr(C)]
 #[derive(Clone, Copy)]
 pub struct CallOutcome {
@@ -18,42 +19,32 @@ pub struct CallOutcome {
     pub length: u64,
 }
 
-// The outcome of any call, in the numbers that its caller gets.
-fn handed(o: Outcome) -> CallOutcome
-    ensures { result ≡ handed o }
-{
-    match o {
-        Outcome::Done(length) => CallOutcome {
-            refusal: 0,
-            place: 0,
-            length: length as u64,
-        },
-        Outcome::Refused(number, place) => CallOutcome {
-            refusal: number as u64,
-            place: place as u64,
-            length: 0,
-        },
+// The answer of any call, in the numbers that its caller gets.
+impl From<Result<usize, Refusal>> for CallOutcome {
+    ghost from_gives = { λ answer outcome. outcome ≡ handed (told answer) };
+
+    fn from(answer: Result<usize, Refusal>) -> CallOutcome {
+        match answer {
+            Ok(length) => CallOutcome {
+                refusal: 0,
+                place: 0,
+                length: length as u64,
+            },
+            Err(refusal) => CallOutcome {
+                refusal: refusal.reason.number() as u64,
+                place: refusal.place as u64,
+                length: 0,
+            },
+        }
     }
 }
 
-// A check as an outcome: it writes no output.
-fn outcome_of(c: Checked) -> Outcome
-    ensures { result ≡ outcome_of c }
-{
-    match c {
-        Checked::Accepted => Outcome::Done(0),
-        Checked::Refused(number, place) => Outcome::Refused(number, place),
-    }
-}
-
-// The check of a job's bytes: all rows of the refusal table that are about them alone.
+// The check of a job's bytes: all rows of the refusal table that are about them alone. It writes no output, so length is 0.
 #[unsafe(no_mangle)]
 pub extern "C" fn chargefile_check(job: &[u8]) -> CallOutcome
     ensures { CheckCalled job.now result }
 {
-    let c = job::check(job);
-    let o = outcome_of(c);
-    handed(o)
+    CallOutcome::from(job::check(job).and(Ok(0)))
 }
 
 // A job checked, run, and its result written. Any lengths may be lent: too small a result buffer, too few rows or too little memory is refused 11.
@@ -66,8 +57,7 @@ pub extern "C" fn chargefile_run(
 ) -> CallOutcome
     ensures { Called job.now res.old res.new rows.old rows.new memory.old memory.new result }
 {
-    let o = run::run(job, res, rows, memory);
-    handed(o)
+    CallOutcome::from(run::run(job, res, rows, memory))
 }
 
 // A job with operations and no turns, written again with a turn list that finishes them all. Any lengths may be lent, as for a run.
@@ -80,8 +70,7 @@ pub extern "C" fn chargefile_deal(
 ) -> CallOutcome
     ensures { DealCalled job.now out.old out.new rows.old rows.new memory.old memory.new result }
 {
-    let o = deal::deal(job, out, rows, memory);
-    handed(o)
+    CallOutcome::from(deal::deal(job, out, rows, memory))
 }
 
 // A charge file tidied between two runs, with a directory of the wanted depth. Any depth may be asked for, and any length lent: what cannot be is
@@ -90,8 +79,7 @@ pub extern "C" fn chargefile_deal(
 pub extern "C" fn chargefile_tidy(file: &[u8], depth: u64, out: &mut [u8]) -> CallOutcome
     ensures { TidyCalled file.now depth out.old out.new result }
 {
-    let o = tidy::tidy(file, depth as usize, out);
-    handed(o)
+    CallOutcome::from(tidy::tidy(file, depth as usize, out))
 }
 
 // The calls of the switch's log priced by a tariff: an insert for each record. Any bytes may be handed over as either, and any length lent: what cannot
@@ -100,6 +88,5 @@ pub extern "C" fn chargefile_tidy(file: &[u8], depth: u64, out: &mut [u8]) -> Ca
 pub extern "C" fn chargefile_price(tariff: &[u8], log: &[u8], out: &mut [u8]) -> CallOutcome
     ensures { PriceCalled tariff.now log.now out.old out.new result }
 {
-    let o = tariff::price(tariff, log, out);
-    handed(o)
+    CallOutcome::from(tariff::price(tariff, log, out))
 }

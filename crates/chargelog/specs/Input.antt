@@ -1,20 +1,17 @@
 -- What reading the input answers, and what is printed of it.
-use Rattle.std.specs.Prelude.{ℕ, suc, ◌≤◌, ◌≡◌, List, length, take, Option, IfSome}
+use Rattle.std.specs.Prelude.{ℕ, suc, ◌≤◌, ◌≡◌, List, length, take, Option, IfSome, Result, IfOk}
 use Rattle.std.specs.Io.KnownBytes.{Appends}
 use Rattle.spec.specs.Report.{printed}
 use Rattle.laws.specs.Codec.Longest.{longest}
-use Rattle.chargelog.specs.declared.Input.{Input}
-use Rattle.chargelog.specs.declared.Input.TheVariants.{Bytes, Failed}
+use Rattle.chargelog.specs.declared.Failure.{Failure}
 
--- a number of bytes that the buffer has, or that a read failed
-abbrev pub Within : List ℕ → Input → Type 0
-Within t (Bytes n) = n ≤ length t
-Within t Failed = Unit {0}
+-- where no read failed, a number of bytes that the buffer has
+abbrev pub Within : List ℕ → Result ℕ Failure → Type 0
+Within t r = IfOk r (λ n. n ≤ length t)
 
 -- the first bytes of an input whose bytes are known: as many as the buffer has, or all of them where it ends before
-abbrev pub ReadsFirst : Option (List ℕ) → List ℕ → Input → Type 0
-ReadsFirst known t (Bytes n) = IfSome known (λ whole. take n t ≡ take (length t) whole)
-ReadsFirst known t Failed = Unit {0}
+abbrev pub ReadsFirst : Option (List ℕ) → List ℕ → Result ℕ Failure → Type 0
+ReadsFirst known t r = IfOk r (λ n. IfSome known (λ whole. take n t ≡ take (length t) whole))
 
 -- the first n bytes of the buffer, which has as many, are what is printed for the bytes b; and for any input of which b is as much as is read
 pub record Says (b t : List ℕ) (n : ℕ) : Type 0 where

@@ -6,18 +6,10 @@ ghost use Rattle.std.specs.Io.KnownBytes.{Keeps};
 ghost use Rattle.chargelog.specs.Failure.{message};
 ghost use Rattle.chargelog.specs.Input.{Within, ReadsFirst, Says, Shows, Answers};
 
-use print::Printed;
 use std::env::FillError;
 use std::io::{Read, Write};
 use std::rt::Env;
 use std::{fmt, io};
-
-// What standard input held: this many bytes; or a read failed.
-#[derive(Clone, Copy)]
-enum Input {
-    Bytes(usize),
-    Failed,
-}
 
 // Why a job has no answer.
 #[derive(Clone, Copy)]
@@ -37,20 +29,21 @@ impl fmt::Display for Failure {
     }
 }
 
-// Reads until the buffer is full or the input ends.
-fn read_job<R: Read>(input: &mut R, job: &mut [u8]) -> Input
+// Reads until the buffer is full or the input ends, and answers how many bytes that were. A read gives as many bytes as it likes, so the loop is no
+// count. (Here and below a buffer has its length beside it: there is no heap.)
+fn read_job<R: Read>(input: &mut R, job: &mut [u8]) -> Result<usize, Failure>
     ensures within { Within job.new result }
     ensures first { ReadsFirst (R.remaining input.old) job.new result }
 {
     let mut n: usize = 0;
     while n < job.len() {
-        match input.read(&mut job[n..]) {
-            Ok(0) => return Input::Bytes(n),
-            Ok(more) => n += more,
-            Err(_) => return Input::Failed,
+        let more = input.read(&mut job[n..]).map_err(|_| Failure::NotRead)?;
+        if more == 0 {
+            break;
         }
+        n += more;
     }
-    Input::Bytes(n)
+    Ok(n)
 }
 
 // What is printed for the job, and its length. What is lent is enough for every job, so that refusal 11 never comes, and there is room.
@@ -60,11 +53,7 @@ fn text_of(job: &[u8], text: &mut [u8]) -> usize
 {
     let mut result = [0u8; 21048];
     let mut work = [0u8; 24576];
-    let p = print::print(job, &mut result, &mut work, text);
-    match p {
-        Printed::Text(n) => n,
-        Printed::NoRoom => 0,
-    }
+    print::print(job, &mut result, &mut work, text).unwrap()
 }
 
 // Writes what is printed for the job.
@@ -84,11 +73,8 @@ fn print_job<R: Read, W: Write>(input: &mut R, output: &mut W) -> Result<(), Fai
     ensures unread { result ≡ Err Failure.NotRead → Keeps (W.contents output.old) (W.contents output.new) }
 {
     let mut job = [0u8; 53281];
-    let i = read_job(input, &mut job);
-    match i {
-        Input::Bytes(n) => show(&job[..n], output).map_err(|_| Failure::NotWritten),
-        Input::Failed => Err(Failure::NotRead),
-    }
+    let n = read_job(input, &mut job)?;
+    show(&job[..n], output).map_err(|_| Failure::NotWritten)
 }
 
 // The program ends with status 0 whatever comes, so what went wrong is said on standard error; where that cannot be written either, nothing is left

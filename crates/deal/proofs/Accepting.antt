@@ -23,7 +23,7 @@ use Rattle.run.proofs.Known.{proper, heads}
 use Rattle.run.proofs.Begins.{begun}
 use Rattle.rounds.proofs.Follows.{Follows, gives_all, follows_rounds, follows_none}
 use Rattle.header.specs.declared.Header.{Header}
-use Rattle.header.specs.Counts.{counts_of, Heads}
+use Rattle.header.specs.Counts.{counts_of}
 use Rattle.wire.specs.Over.{over}
 use Rattle.wire.specs.OverLaws.{length_over}
 use Rattle.memory.specs.Load.{loaded}
@@ -34,7 +34,7 @@ use Rattle.rounds.specs.OnTable.{Dealing, dealing, rounds_on, GivesAll}
 use Rattle.deal.proofs.Fields.{fields}
 use Rattle.deal.specs.Call.{Accepted, Dealt}
 
--- the memory that `load` leaves, and what the rounds begin with: a blank table, the output as it came
+-- the memory that `start` leaves, and what the rounds begin with: a blank table, the output as it came
 abbrev pub work₁ : Header → List ℕ → List ℕ → List ℕ
 work₁ h b w = loaded w (directory_in (counts_of h) b) (table_in (counts_of h) b) h.capacity h.used
 
@@ -43,7 +43,7 @@ first h b s x w = dealing (replicate (length x) blank_row) s (work₁ h b w) 0
 
 -- what the calls ask, and what they come to
 pub record Deals (b s : List ℕ) (x : List Row) (w : List ℕ) (h : Header) : Type 0 where
-  pub load : Heads h b × (work_size ≤ length w)
+  pub start : work_size ≤ length w
   pub rounds : (n : ℕ) → GivesAll h b (rounds_on h b n (first h b s x w)) × ((rounds_on h b n (first h b s x w)).turns ≤ max_dealt)
   pub close
       : (u : Dealing)
@@ -56,19 +56,16 @@ pub record Deals (b s : List ℕ) (x : List Row) (w : List ℕ) (h : Header) : T
       → {y : List Row} {t z : List ℕ} {v : ℕ}
       → length u.rows ≡ length x
       → length u.work ≡ length w
-      → y ≡ replicate (length u.rows) blank_row
-      → (v ≡ length b + turn_size * u.turns)
-      × (t ≡ over (over (over u.out 0 b) turn_count_at (two u.turns)) total_at (four v))
-      × (z ≡ replicate (length u.work) 0)
+      → (y ≡ replicate (length u.rows) blank_row) × (z ≡ replicate (length u.work) 0)
+      → (v ≡ length b + turn_size * u.turns) × (t ≡ over (over (over u.out 0 b) turn_count_at (two u.turns)) total_at (four v))
       → Dealt b s t x y w z v
 
 module _ {b s : List ℕ} {x : List Row} {w : List ℕ} (a : Accepted b s x w) where
   lends : NotRefused (lent s x w) b
   lends = (deal_said (lent s x w) b).0 a.faultless
 
-  -- `Header::read`
-  pub read_asks : header_size ≤ length b
-  read_asks = (accepted_header b lends.accepted).laid.header
+  head_there : header_size ≤ length b
+  head_there = (accepted_header b lends.accepted).laid.header
 
   module _ (h : Header) (e : counts_of h ≡ header_of b) where
     abbrev o : Accepts h b
@@ -113,7 +110,7 @@ module _ {b s : List ℕ} {x : List Row} {w : List ℕ} (a : Accepted b s x w) w
       close_asks : (header_size ≤ length b) × (length b ≤ longest) × (u.turns ≤ max_dealt) × (length b + turn_size * u.turns ≤ length u.out)
       close_asks =
           rw led.turns
-          (read_asks, rw (heads o).size (total_most (counts_of h) (heads o).limits), short, rw (led.out, length_over) (omega (arith, lends.output, short)))
+          (head_there, rw (heads o).size (total_most (counts_of h) (heads o).limits), short, rw (led.out, length_over) (omega (arith, lends.output, short)))
 
       -- the buffer in the end
       written
@@ -125,31 +122,30 @@ module _ {b s : List ℕ} {x : List Row} {w : List ℕ} (a : Accepted b s x w) w
           let m : length b + length (each two list) ≡ length (dealt_bytes b) = omega (arith, many, size) in
           let same = (deals_turns b a.bytes lends.accepted lends.unturned).bytes in
           rw (led.turns, led.out, ends_at)
-          (fields b (each two list) s (two (length list)) (four v) read_asks (omega (arith, many, short, lends.output)) (length_two _) (length_four _)
+          (fields b (each two list) s (two (length list)) (four v) head_there (omega (arith, many, short, lends.output)) (length_two _) (length_four _)
           ∙ rw (z, m) (ap (λ (t : List ℕ). t ++ drop (length (dealt_bytes b)) s) (sym same)))
 
     pub deals : Deals b s x w h
     deals =
         record {
-          load = (heads o, lends.work);
+          start = lends.work;
           rounds = λ n.
               let f = follows_rounds o s room (first h b s x w) first_follows n in
               (gives_all o s room _ _ f, rw f.turns (uses_fit (job_of b) (proper o).file (proper o).op_count _ f.uses));
           close = close_asks;
-          all = λ u is lx lw ey c.
+          all = λ u is lx lw k c.
               record {
                 total = c.0 ∙ rw (led u is).turns (sym size);
                 output = c.1 ∙ written u is _ c.0;
-                rows = ey ∙ ap (λ (k : ℕ). replicate k blank_row) lx;
-                work = c.2 ∙ ap (λ (k : ℕ). replicate {A = ℕ} k 0) lw;
+                rows = k.0 ∙ ap (λ (k : ℕ). replicate k blank_row) lx;
+                work = k.1 ∙ ap (λ (k : ℕ). replicate {A = ℕ} k 0) lw;
               };
         }
 
--- the table and the memory that the first calls leave are what the rounds begin with
+-- the table and the memory that `start` leaves are what the rounds begin with
 pub first_is
-    : (h : Header) (b s : List ℕ) (x : List Row) (w : List ℕ) (z : List Row) (u : List ℕ) (r : Row)
-    → z ≡ replicate (length x) r
-    → r ≡ blank_row
+    : (h : Header) (b s : List ℕ) (x : List Row) (w : List ℕ) {z : List Row} {u : List ℕ}
+    → z ≡ replicate (length x) blank_row
     → u ≡ work₁ h b w
     → dealing z s u 0 ≡ first h b s x w
-first_is h b s x w z u r ez er eu = λ i. dealing ((ez ∙ ap (replicate (length x)) er) i) s (eu i) 0
+first_is h b s x w ez eu = λ i. dealing (ez i) s (eu i) 0

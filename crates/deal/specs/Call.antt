@@ -1,7 +1,6 @@
 -- What a call of `deal` comes to.
-use Rattle.std.specs.Prelude.{◌≡◌, List, ◌++◌, ℕ, length, drop, replicate}
-use Rattle.std.proofs.Math.Option.{none}
-use Rattle.spec.specs.declared.Outcome.{Outcome}
+use Rattle.std.specs.Prelude.{◌≡◌, List, ◌++◌, ℕ, length, drop, replicate, None}
+use Rattle.spec.specs.Outcome.{Outcome}
 use Rattle.spec.specs.declared.Stage.TheVariants.{NotBegun}
 use Rattle.spec.specs.State.{blank}
 use Rattle.spec.specs.Bytes.{AreBytes}
@@ -14,7 +13,7 @@ use Rattle.run.specs.Call.{lent}
 -- the bytes b are a job for which turns are dealt, with s, x and w lent
 pub record Accepted (b s : List ℕ) (x : List Row) (w : List ℕ) : Type 0 where
   pub bytes : AreBytes b
-  pub faultless : deal_fault (lent s x w) b ≡ none
+  pub faultless : deal_fault (lent s x w) b ≡ None
 
 -- turns are dealt for the job b: it stands with its list first in the output buffer, which was s, and has v bytes; table and memory are cleared
 pub record Dealt (b s t : List ℕ) (x y : List Row) (w u : List ℕ) (v : ℕ) : Type 0 where
@@ -32,4 +31,4 @@ pub record Settled (b s t : List ℕ) (x y : List Row) (w u : List ℕ) (r : Out
   pub work : u ≡ deal_work (lent s x w) b w
   -- the rows' fixed value "stands for an operation not begun", as after a run
   pub fixed : (blank_row ≡ row_image blank) × (stage_in blank_row ≡ NotBegun)
-  pub dealt : deal_fault (lent s x w) b ≡ none → DealtWritten b
+  pub dealt : deal_fault (lent s x w) b ≡ None → DealtWritten b

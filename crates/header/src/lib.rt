@@ -1,8 +1,7 @@
-// A job's header: its counts, its limits, and where each section begins. What the sections hold: sections.rt. The header of a charge file: file.rt
+// A job's header: its counts, its limits, and where each section begins. The header of a charge file: file.rt
 #![tactic(auto)]
 
 mod file;
-mod sections;
 
 ghost use Rattle.std.specs.Prelude.{◌≡◌, ◌^◌, ◌≤◌, length};
 ghost use Rattle.spec.specs.Job.{header_size, page_size, table_offset, ops_offset, turns_offset, total, page_place, op_place, turn_place};
@@ -10,7 +9,8 @@ ghost use Rattle.spec.specs.Decode.{header_of};
 ghost use Rattle.laws.specs.Codec.Rows.{Limits};
 ghost use Rattle.header.specs.Counts.{counts_of};
 
-// The counts of a job's header: g, c, P, U, m and the turn count.
+// The counts of a job's header, as its bytes say them: g, c, P, U, m and the turn count. (They may be outside their limits, for row 3 asks that of them.
+// So the methods below ask for the limits: a type of counts within them would have these same six fields.)
 #[derive(Clone, Copy)]
 pub struct Header {
     pub depth: usize,
@@ -49,7 +49,7 @@ impl Header {
 
     pub const MAX_TURNS: usize = 16384;
 
-    // What the bytes say, within the limits or not.
+    // What the bytes say, within the limits or not. (No `From`, which asks nothing of its argument: this asks for the bytes of a header.)
     pub fn read(job: &[u8]) -> Header
         requires { header_size ≤ length job.now }
         ensures { counts_of result ≡ header_of job.now }
@@ -69,28 +69,29 @@ impl Header {
         requires { Limits (counts_of self) }
         ensures { (result ≡ 2 ^ self.depth) × (result ≤ 256) }
     {
-        1 << self.depth
+        Header::entries_at(self.depth)
     }
 
     pub fn page_size(self) -> usize
         requires { Limits (counts_of self) }
         ensures { (result ≡ page_size self.capacity) × (result ≤ 68) }
     {
-        4 + 8 * self.capacity
+        Header::page_size_at(self.capacity)
     }
 
     pub fn table_offset(self) -> usize
         requires { Limits (counts_of self) }
         ensures { (result ≡ table_offset (counts_of self)) × (result ≤ 544) }
     {
-        Header::SIZE + 2 * self.entries()
+        Header::table_at(self.depth)
     }
 
+    // The operations begin where a charge file ends.
     pub fn ops_offset(self) -> usize
         requires { Limits (counts_of self) }
         ensures { (result ≡ ops_offset (counts_of self)) × (result ≤ 17952) }
     {
-        self.table_offset() + self.page_size() * self.pages
+        Header::file_length(self.depth, self.capacity, self.pages)
     }
 
     pub fn turns_offset(self) -> usize
@@ -107,7 +108,7 @@ impl Header {
         self.turns_offset() + 2 * self.turns
     }
 
-    // where page x begins, from 1
+    // where page x begins, from 1 (This and the two below are a formula of the document each: one for all would take its numbers as arguments.)
     pub fn page_place(self, x: usize) -> usize
         requires { Limits (counts_of self) × (1 ≤ x) × (x ≤ self.pages) }
         ensures { (result ≡ page_place (counts_of self) x) × (result ≤ 17952) }

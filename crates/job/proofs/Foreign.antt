@@ -9,7 +9,7 @@ use native.Mathlib.Numerals.{add-one, one-add}
 use lib.ListN.{length, get_or, take}
 use lib.Seq.{take-length}
 use lib.Pow.{pow_mono}
-use Rattle.spec.specs.declared.Spot.TheVariants.{At, Nowhere}
+use Rattle.std.specs.Prelude.{Option, None, Some, option_map}
 use Rattle.spec.specs.Basics.{any_of}
 use Rattle.spec.specs.Bytes.{byte, word}
 use Rattle.spec.specs.Key.{begins}
@@ -17,10 +17,9 @@ use Rattle.spec.specs.File.{zero_page, page_at, entry_at, pages_in_use}
 use Rattle.spec.specs.Job.{entry_place}
 use Rattle.spec.specs.Decode.{page_of, file_of, job_of}
 use Rattle.spec.specs.Check.{owns, owns_too, bad_owner, owner_fault, wrong_owner}
-use Rattle.spec.specs.Cases.{spot_of}
 use Rattle.header.specs.declared.Header.{Header}
 use Rattle.header.specs.Sections.{entries-count}
-use Rattle.job.specs.Owner.{Paged, stray, other, foreign, Lowest}
+use Rattle.job.specs.Owner.{Paged, stray, other, foreign, NonePass, LowestOf}
 use Rattle.job.proofs.Sizes.{shifted}
 use Rattle.laws.specs.Codec.Passed.{clear_hit, clear_all}
 use Rattle.job.proofs.Pages.{PageIs, page-depth, in_use, in_use_at}
@@ -43,8 +42,7 @@ pub record Span (h : Header) (b : List ℕ) (x from to : ℕ) : Type 0 where
   pub order : from ≤ to
   pub within : to ≤ 2 ^ h.depth
   pub small : 2 ^ h.depth ≤ 256
-  pub stops : (r : ℕ) → Lowest (other b x) from to r → r < to → Lowest (foreign b x) 0 (2 ^ h.depth) r
-  pub ends : (r : ℕ) → Lowest (other b x) from to r → to ≤ r → Lowest (foreign b x) 0 (2 ^ h.depth) (2 ^ h.depth)
+  pub tells : (r : Option ℕ) → LowestOf (other b x) from to r → LowestOf (foreign b x) 0 (2 ^ h.depth) r
 
 -- the faults of the first k pages
 pub up_to : List ℕ → ℕ → ℕ → Bool
@@ -63,31 +61,28 @@ module _ {h : Header} {b : List ℕ} (e : Paged h b) where
     to = from + run h.depth (byte s 0) (word s 2)
 
     -- the entries before the walk's stop are no faults of page x
-    passed : (r q : ℕ) → Lowest (other b x) from to r → q < r → foreign b x q ≡ false
+    passed : (r q : ℕ) → r ≤ to → NonePass (other b x) from r → q < r → foreign b x q ≡ false
     unfolding foreign owns_too other
-    passed r q w l = by (dec_lt q from)
+    passed r q m w l = by (dec_lt q from)
       where
         by : Dec (q < from) → foreign b x q ≡ false
         by (yes f) = rw (owns_is x q s p, below_begun h.depth (byte s 0) (word s 2) q f, and-false)
-        by (no f) = rw (w.before q (omega (arith, f)) l)
+        by (no f) = rw (w q (omega (arith, f)) l)
 
-    stops : (r : ℕ) → to ≤ 2 ^ h.depth → Lowest (other b x) from to r → r < to → Lowest (foreign b x) 0 (2 ^ h.depth) r
+    tells : to ≤ 2 ^ h.depth → (r : Option ℕ) → LowestOf (other b x) from to r → LowestOf (foreign b x) 0 (2 ^ h.depth) r
     unfolding foreign owns_too other
-    stops r n w l =
+    tells n None w = λ q a l. by q (dec_lt q to)
+      where
+        by : (q : ℕ) → Dec (q < to) → foreign b x q ≡ false
+        by q (yes f) = passed to q (omega arith) w f
+        by q (no f) = rw (owns_is x q s p, above_begun h.depth (byte s 0) (word s 2) q (omega (arith, f)), and-false)
+    tells n (Some r) w =
         record {
           least = omega arith;
-          most = omega arith;
-          before = λ q a z. passed r q w z;
-          here = λ z. rw (w.here l, owns_is x r s p, begun h.depth (byte s 0) (word s 2) r w.least l);
+          most = omega (arith, w.most);
+          before = λ q a z. passed r q (omega (arith, w.most)) w.before z;
+          here = rw (w.here, owns_is x r s p, begun h.depth (byte s 0) (word s 2) r w.least w.most);
         }
-
-    ends : (r : ℕ) → Lowest (other b x) from to r → to ≤ r → Lowest (foreign b x) 0 (2 ^ h.depth) (2 ^ h.depth)
-    unfolding foreign owns_too other
-    ends r w l = record { least = omega arith; most = omega arith; before = λ q a z. by q (dec_lt q r); here = λ z. absurd (omega arith) }
-      where
-        by : (q : ℕ) → Dec (q < r) → foreign b x q ≡ false
-        by q (yes f) = passed r q w f
-        by q (no f) = rw (owns_is x q s p, above_begun h.depth (byte s 0) (word s 2) q (omega (arith, f)), and-false)
 
     -- as the code reads them
     pub span : (d w : ℕ) → d ≡ byte s 0 → w ≡ word s 2 → let n = 1 * 2 ^ (h.depth - d) % 2 ^ 64 in Span h b x (w * n) (w * n + n)
@@ -96,7 +91,7 @@ module _ {h : Header} {b : List ℕ} (e : Paged h b) where
         let m : 2 ^ h.depth ≤ 2 ^ 8 = pow_mono e.heads.limits.depth in
         let i = begun_end h.depth (byte s 0) (word s 2) k p.fine.small in
         rw (ed, ew, shifted (h.depth - byte s 0) (omega (arith, e.heads.limits.depth)))
-        (record { order = omega arith; within = i; small = m; stops = λ r. stops r i; ends = ends })
+        (record { order = omega arith; within = i; small = m; tells = tells i })
 
   -- all pages together
   pub up_none : (j : ℕ) → up_to b 0 j ≡ stray b j
@@ -116,15 +111,12 @@ module _ {h : Header} {b : List ℕ} (e : Paged h b) where
       ap (λ q. stray b j || any_of (owns_too (file_of b).g j (entry_at (file_of b) j)) 1 q) (ap (λ n. take n p) (l ∙ sym (in_use e)) ∙ take-length p)
 
   -- the lowest of all faults is what row 7 asks for
-  pub owner_stop : (k r : ℕ) → k ≡ h.used → Lowest (up_to b k) 0 (2 ^ h.depth) r → r < 2 ^ h.depth → At (32 + 2 * r) ≡ spot_of (wrong_owner b)
-  unfolding job_of wrong_owner owner_fault entry_at entry_place
-  owner_stop k r u w l =
-      clear_hit (bad_owner (file_of b)) (file_of b).directory 0 entry_place r (32 + 2 * r) (rw (entries-count e.heads) l)
-      (λ q z. sym (up_all k q u) ∙ w.before q (omega arith) z)
-      (sym (up_all k r u) ∙ w.here l) refl
-
-  pub owner_end : (k r : ℕ) → k ≡ h.used → Lowest (up_to b k) 0 (2 ^ h.depth) r → 2 ^ h.depth ≤ r → Nowhere ≡ spot_of (wrong_owner b)
+  pub owner_told : (k : ℕ) (r : Option ℕ) → k ≡ h.used → LowestOf (up_to b k) 0 (2 ^ h.depth) r → option_map entry_place r ≡ wrong_owner b
   unfolding job_of wrong_owner owner_fault entry_at
-  owner_end k r u w l =
-      clear_all (bad_owner (file_of b)) (file_of b).directory 0 entry_place r (rw (entries-count e.heads) l)
+  owner_told k None u w =
+      clear_all (bad_owner (file_of b)) (file_of b).directory 0 entry_place (2 ^ h.depth) (rw (entries-count e.heads) (omega arith))
+      (λ q z. sym (up_all k q u) ∙ w q (omega arith) z)
+  owner_told k (Some r) u w =
+      clear_hit (bad_owner (file_of b)) (file_of b).directory 0 entry_place r _ (rw (entries-count e.heads) w.most)
       (λ q z. sym (up_all k q u) ∙ w.before q (omega arith) z)
+      (sym (up_all k r u) ∙ w.here) refl

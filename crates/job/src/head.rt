@@ -1,15 +1,13 @@
-// Rows 1 to 4: the header.
+// Rows 1 to 4: the header. (Rows 2 to 4 ask for its bytes themselves, and so does 4 for its limits: a `Reader` is what there is when they have passed.)
 ghost use Rattle.std.specs.Prelude.{◌≡◌, not, ◌+◌, ◌≤◌, length, eqb};
 ghost use Rattle.spec.specs.Bytes.{long};
 ghost use Rattle.spec.specs.Job.{header_size};
 ghost use Rattle.spec.specs.Decode.{header_of};
 ghost use Rattle.spec.specs.Check.{outside, short, wrong_version, over_limit, wrong_offset};
-ghost use Rattle.spec.specs.Cases.{spot_of};
 ghost use Rattle.laws.specs.Codec.Rows.{Limits};
 ghost use Rattle.header.specs.Counts.{counts_of};
 
 use header::Header;
-use spec::Spot;
 
 pub fn is_outside(least: usize, most: usize, n: usize) -> bool
     ensures { result ≡ outside least most n }
@@ -18,52 +16,44 @@ pub fn is_outside(least: usize, most: usize, n: usize) -> bool
 }
 
 // 1 short: "under 32 bytes; place is the length"
-pub fn short(job: &[u8]) -> Spot
-    ensures { result ≡ spot_of (short job.now) }
+pub fn short(job: &[u8]) -> Option<usize>
+    ensures { result ≡ short job.now }
 {
-    if job.len() < Header::SIZE {
-        Spot::At(job.len())
-    } else {
-        Spot::Nowhere
-    }
+    (job.len() < Header::SIZE).then_some(job.len())
 }
 
 // 2 version: "Job version is 2; version 1 gives refusal 2"
-pub fn wrong_version(job: &[u8]) -> Spot
+pub fn wrong_version(job: &[u8]) -> Option<usize>
     requires { header_size ≤ length job.now }
-    ensures { result ≡ spot_of (wrong_version job.now) }
+    ensures { result ≡ wrong_version job.now }
 {
-    if wire::u16_at(job, 0) == Header::VERSION {
-        Spot::Nowhere
-    } else {
-        Spot::At(0)
-    }
+    (wire::u16_at(job, 0) != Header::VERSION).then_some(0)
 }
 
 // 3 limit: "a count outside its limits, or U is 0 or above P". (The job is named by the contract alone: its counts are in h.)
-pub fn over_limit(job: &[u8], h: Header) -> Spot
+pub fn over_limit(job: &[u8], h: Header) -> Option<usize>
     requires { counts_of h ≡ header_of job.now }
-    ensures { result ≡ spot_of (over_limit job.now) }
+    ensures { result ≡ over_limit job.now }
 {
     if is_outside(Header::MIN_DEPTH, Header::MAX_DEPTH, h.depth) {
-        return Spot::At(2);
+        return Some(2);
     }
     if is_outside(Header::MIN_CAPACITY, Header::MAX_CAPACITY, h.capacity) {
-        return Spot::At(3);
+        return Some(3);
     }
     if is_outside(Header::MIN_PAGES, Header::MAX_PAGES, h.pages) {
-        return Spot::At(4);
+        return Some(4);
     }
     if is_outside(1, h.pages, h.used) {
-        return Spot::At(6);
+        return Some(6);
     }
     if is_outside(Header::MIN_OPS, Header::MAX_OPS, h.ops) {
-        return Spot::At(8);
+        return Some(8);
     }
     if is_outside(Header::MIN_TURNS, Header::MAX_TURNS, h.turns) {
-        return Spot::At(10);
+        return Some(10);
     }
-    Spot::Nowhere
+    None
 }
 
 // The number of 4 bytes at a place is not n.
@@ -75,28 +65,25 @@ fn differs(job: &[u8], at: usize, n: usize) -> bool
 }
 
 // 4 offset: "an offset or total not as computed; length not the total"
-pub fn wrong_offset(job: &[u8], h: Header) -> Spot
+pub fn wrong_offset(job: &[u8], h: Header) -> Option<usize>
     requires { (header_size ≤ length job.now) × (counts_of h ≡ header_of job.now) × Limits (counts_of h) }
-    ensures { result ≡ spot_of (wrong_offset job.now) }
+    ensures { result ≡ wrong_offset job.now }
 {
     if differs(job, 12, Header::SIZE) {
-        return Spot::At(12);
+        return Some(12);
     }
     if differs(job, 16, h.table_offset()) {
-        return Spot::At(16);
+        return Some(16);
     }
     if differs(job, 20, h.ops_offset()) {
-        return Spot::At(20);
+        return Some(20);
     }
     if differs(job, 24, h.turns_offset()) {
-        return Spot::At(24);
+        return Some(24);
     }
     let total = h.total();
-    if differs(job, 28, total) {
-        return Spot::At(28);
+    if differs(job, 28, total) || job.len() != total {
+        return Some(28);
     }
-    if job.len() != total {
-        return Spot::At(28);
-    }
-    Spot::Nowhere
+    None
 }

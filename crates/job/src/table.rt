@@ -1,131 +1,98 @@
 // Rows 5, and 12, 6 and 13: directory entries, and pages, each by itself.
-ghost use Rattle.std.specs.Prelude.{◌≡◌, ◌+◌, ◌≤◌, length, drop};
+ghost use Rattle.std.specs.Prelude.{◌≡◌, [], ◌-◌, ◌≤◌, length, get_or};
 ghost use Rattle.spec.specs.Job.{page_size};
+ghost use Rattle.spec.specs.Decode.{header_of, page_parts};
 ghost use Rattle.spec.specs.Check.{first_row, wrong_entry, wrong_pattern, not_zero, used_rows, page_fault, wrong_page};
-ghost use Rattle.spec.specs.Cases.{spot_of, checked_of};
+ghost use Rattle.spec.specs.Cases.{fault_in};
 ghost use Rattle.laws.specs.Codec.Zeros.{zeros};
 ghost use Rattle.laws.specs.Codec.Rows.{Limits};
-ghost use Rattle.header.specs.Counts.{counts_of, Heads};
+ghost use Rattle.header.specs.Counts.{counts_of};
 
 use crate::head;
 use header::Header;
-use spec::{Checked, Spot};
+use reader::Reader;
+use spec::{Reason, Refusal};
 
 // 5 entry: "0 or above U"
-pub fn wrong_entry(job: &[u8], h: Header) -> Spot
-    requires { Heads h job.now }
-    ensures { result ≡ spot_of (wrong_entry job.now) }
+pub fn wrong_entry(reader: Reader) -> Option<usize>
+    ensures { result ≡ wrong_entry reader.entry.job.now }
 {
-    let n = h.entries();
-    let used = h.used;
-    let mut j: usize = 0;
-    while j < n {
-        if head::is_outside(1, used, h.entry(job, j)) {
-            return Spot::At(Header::SIZE + 2 * j);
-        }
-        j += 1;
-    }
-    Spot::Nowhere
+    let used = reader.header.used;
+    let j = (0..reader.header.entries()).find(|j| head::is_outside(1, used, reader.entry(*j)))?;
+    Some(Header::SIZE + 2 * j)
 }
 
-// Every byte from a place on is zero: so is their sum. (The loop has no way out, so that several bytes are added at a time.)
-fn is_zero(s: &[u8], from: usize) -> bool
-    requires { (from ≤ length s.now) × (length s.now ≤ 68) }
-    ensures { result ≡ zeros (drop from s.now) }
+// Every byte is zero: so is their sum. (A sum has no way out before its end, so several bytes are added at a time.)
+fn is_zero(bytes: &[u8]) -> bool
+    requires { length bytes.now ≤ 68 }
+    ensures { result ≡ zeros bytes.now }
 {
-    let mut sum: usize = 0;
-    let mut i = from;
-    while i < s.len() {
-        sum += s[i] as usize;
-        i += 1;
-    }
+    let sum: usize = bytes.iter().map(|b| *b as usize).sum();
     sum == 0
 }
 
-// 13 zero: "at the first byte that should be zero and is not", from byte `from` of a page on, which begins at a place. It is looked for only where
-// the sum of these bytes is not zero.
-fn not_zero(page: &[u8], from: usize, place: usize) -> Spot
-    requires { (from ≤ length page.now) × (length page.now ≤ 68) × (place ≤ 17952) }
-    ensures { result ≡ spot_of (not_zero (place + from) (drop from page.now)) }
+// 13 zero: "at the first byte that should be zero and is not", of bytes of a page, which begin at a place. It is looked for only where the sum of
+// these bytes is not zero.
+fn not_zero(bytes: &[u8], place: usize) -> Option<usize>
+    requires { (length bytes.now ≤ 68) × (place ≤ 18020) }
+    ensures { result ≡ not_zero place bytes.now }
 {
-    if is_zero(page, from) {
-        return Spot::Nowhere;
+    if is_zero(bytes) {
+        return None;
     }
-    let mut at = from;
-    while at < page.len() {
-        if page[at] != 0 {
-            return Spot::At(place + at);
-        }
-        at += 1;
-    }
-    Spot::Nowhere
+    let i = bytes.iter().position(|b| *b != 0)?;
+    Some(place + i)
 }
 
+// (That a place is one where a page can begin is asked by each function that adds to it: a page's bytes do not tell it.)
+
 // 12 pattern: "A depth above g or a pattern too large", "at that field", of a page that begins at a place.
-fn wrong_pattern(h: Header, page: &[u8], place: usize) -> Spot
+fn wrong_pattern(h: Header, page: &[u8], place: usize) -> Option<usize>
     requires { Limits (counts_of h) × (length page.now ≡ page_size h.capacity) × (place ≤ 17952) }
-    ensures { result ≡ spot_of (wrong_pattern h.depth place page.now) }
+    ensures { result ≡ wrong_pattern h.depth place page.now }
 {
-    let depth = wire::u8_at(page, 0);
+    let depth = page::depth(page);
     if h.depth < depth {
-        return Spot::At(place);
+        return Some(place);
     }
-    if (1 << depth) <= wire::u16_at(page, 2) {
-        return Spot::At(place + 2);
+    if (1 << depth) <= page::pattern(page) {
+        return Some(place + 2);
     }
-    Spot::Nowhere
+    None
 }
 
 // "12 .., then 6, then 13": the rows of a page in use, which begins at a place.
-fn used_page_fault(h: Header, page: &[u8], place: usize) -> Checked
+fn used_page_fault(h: Header, page: &[u8], place: usize) -> Result<(), Refusal>
     requires { Limits (counts_of h) × (length page.now ≡ page_size h.capacity) × (place ≤ 17952) }
-    ensures { result ≡ checked_of (first_row (used_rows (counts_of h) place) page.now) }
+    ensures { fault_in result ≡ first_row (used_rows (counts_of h) place) page.now }
 {
-    let s = wrong_pattern(h, page, place);
-    if let Spot::At(at) = s {
-        return Checked::Refused(12, at);
-    }
-    let count = wire::u8_at(page, 1);
-    if h.capacity < count {
-        return Checked::Refused(6, place);
-    }
-    let s = not_zero(page, 4 + 8 * count, place);
-    if let Spot::At(at) = s {
-        return Checked::Refused(13, at);
-    }
-    Checked::Accepted
+    Reason::Pattern.refuses(wrong_pattern(h, page, place))?;
+    let count = page::count(page);
+    Reason::Page.refuses((h.capacity < count).then_some(place))?;
+    let unused = 4 + 8 * count;
+    Reason::Zero.refuses(not_zero(&page[unused..], place + unused))
 }
 
-// "on an unused page 13 alone": the rows of page x, which has these bytes.
-fn page_fault(h: Header, x: usize, page: &[u8]) -> Checked
-    requires { Limits (counts_of h) × (length page.now ≡ page_size h.capacity) × (1 ≤ x) × (x ≤ h.pages) }
-    ensures { result ≡ checked_of (page_fault (counts_of h) x page.now) }
+// "on an unused page 13 alone": the rows of page x.
+fn page_fault(reader: Reader, x: usize) -> Result<(), Refusal>
+    requires { (1 ≤ x) × (x ≤ reader.header.pages) }
+    ensures { fault_in result ≡ page_fault (header_of reader.entry.job.now) x (get_or (page_parts (header_of reader.entry.job.now) reader.entry.job.now) (x - 1) []) }
 {
-    let place = h.page_place(x);
-    if x <= h.used {
-        return used_page_fault(h, page, place);
+    let page = reader.page(x);
+    let place = reader.header.page_place(x);
+    if x <= reader.header.used {
+        used_page_fault(reader.header, page, place)
+    } else {
+        Reason::Zero.refuses(not_zero(page, place))
     }
-    let s = not_zero(page, 0, place);
-    if let Spot::At(at) = s {
-        return Checked::Refused(13, at);
-    }
-    Checked::Accepted
 }
 
 // "within each page before the next page is looked at"
-pub fn wrong_page(job: &[u8], h: Header) -> Checked
-    requires { Heads h job.now }
-    ensures { result ≡ checked_of (wrong_page job.now) }
+pub fn wrong_page(reader: Reader) -> Result<(), Refusal>
+    ensures { fault_in result ≡ wrong_page reader.entry.job.now }
 {
-    let n = h.pages;
-    let mut k: usize = 0;
-    while k < n {
-        let x = k + 1;
-        let c = page_fault(h, x, h.page(job, x));
-        if let Checked::Refused(number, place) = c {
-            return Checked::Refused(number, place);
-        }
-        k += 1;
+    for k in 0..reader.header.pages {
+        page_fault(reader, k + 1)?;
     }
-    Checked::Accepted
+    Ok(())
 }

@@ -1,31 +1,23 @@
 // Pseudo keys: the key of a call, the bits that it begins with, and how many leading bits two keys share.
 #![tactic(auto)]
 
-ghost use Rattle.std.specs.Prelude.{◌≡◌, suc, ◌*◌, ◌%◌, ◌^◌, ◌≤◌, ◌<◌, eqb};
+ghost use Rattle.std.specs.Prelude.{◌≡◌, suc, ◌%◌, ◌^◌, ◌≤◌, ◌<◌, eqb};
 ghost use Rattle.spec.specs.Key.{mixed, pseudo_key, first_bits, index, shared};
 
-// Multiplication modulo 2^32: the remainder of the whole product, which has at most 64 bits.
-fn times(a: u32, b: u32) -> u32
-    ensures { result ≡ a * b % 2 ^ 32 }
-{
-    ((a as u64) * (b as u64) % 4294967296) as u32
-}
-
 // One byte of FNV-1a: "exclusive-or, then times 16777619 modulo 2^32".
-fn mix(hash: u32, byte: u32) -> u32
+fn mix(hash: u32, byte: u8) -> u32
     ensures { result ≡ mixed hash byte }
 {
-    times(byte ^ hash, 16777619)
+    (byte as u32 ^ hash).wrapping_mul(16777619)
 }
 
 // "FNV-1a, 32 bits, as published: start at 2166136261, for each of the four bytes, lowest first".
 pub fn pseudo_key(call: u32) -> u32
     ensures { result ≡ pseudo_key call }
 {
-    let one = mix(2166136261, call % 256);
-    let two = mix(one, call / 256 % 256);
-    let three = mix(two, call / 65536 % 256);
-    mix(three, call / 16777216)
+    call.to_le_bytes()
+        .iter()
+        .fold(2166136261, |hash, byte| mix(hash, *byte))
 }
 
 // The first `depth` bits of a pseudo key, as a number. (A shift of 64 bits, since the shift at depth 0 is by 32.)

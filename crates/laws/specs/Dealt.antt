@@ -1,9 +1,8 @@
 -- Turns dealt, for every accepted job without turns given as its bytes: the list, the job that is written with it, and its run.
-use Rattle.std.specs.Prelude.{ℕ, ◌+◌, ◌-◌, ◌*◌, ◌≤◌, ◌≡◌, refl, ◌↔◌, length, take, drop}
+use Rattle.std.specs.Prelude.{ℕ, ◌+◌, ◌-◌, ◌*◌, ◌≤◌, ◌≡◌, refl, ◌↔◌, length, take, drop, None}
 use Rattle.std.proofs.Common.{ap, ◌∙◌, arith}
 use Rattle.std.proofs.Math.Path.{subst}
 use mathlib.Core.List.{List, [], ◌++◌, append_assoc, append-nil}
-use Rattle.std.proofs.Math.Option.{none}
 use Rattle.spec.specs.Basics.{each}
 use Rattle.spec.specs.Bytes.{AreBytes, two, four}
 use Rattle.spec.specs.File.{File}
@@ -99,14 +98,14 @@ module _ (j : Job) (sized : Sized j.file) (unturned : j.turns ≡ []) (ts : List
       rw (size, before) (after ∙ ap (λ (b : List ℕ). b ++ each two ts) (header_with j.file (length j.ops) (length ts) between))
 
 -- 21 is not told: there are no turns
-pub none_counted : (b : List ℕ) → turns_present b ≡ none → (header_of b).turns ≡ 0
+pub none_counted : (b : List ℕ) → turns_present b ≡ None → (header_of b).turns ≡ 0
 unfolding turns_present
 none_counted b e = simp failed at e
 
-no_turn : (b : List ℕ) → turns_present b ≡ none → (job_of b).turns ≡ []
+no_turn : (b : List ℕ) → turns_present b ≡ None → (job_of b).turns ≡ []
 no_turn b e = no_member (job_of b).turns ((counted b).turns ∙ none_counted b e)
 
-module _ (b : List ℕ) (bytes : AreBytes b) (accepted : Accepted b) (unturned : turns_present b ≡ none) where
+module _ (b : List ℕ) (bytes : AreBytes b) (accepted : Accepted b) (unturned : turns_present b ≡ None) where
   proper : JobProper (job_of b)
   proper = accepted_proper b bytes accepted
 
@@ -160,12 +159,12 @@ module _ (b : List ℕ) (bytes : AreBytes b) (accepted : Accepted b) (unturned :
 -- A CALL IS NOT REFUSED exactly if the job is accepted, has no turns, and enough is lent
 pub record NotRefused (l : Lent) (b : List ℕ) : Type 0 where
   pub accepted : Accepted b
-  pub unturned : turns_present b ≡ none
+  pub unturned : turns_present b ≡ None
   pub output : length b + turn_size * max_dealt ≤ l.output
   pub rows : (header_of b).ops ≤ l.rows
   pub work : work_size ≤ l.work
 
-pub deal_said : (l : Lent) (b : List ℕ) → deal_fault l b ≡ none ↔ NotRefused l b
+pub deal_said : (l : Lent) (b : List ℕ) → deal_fault l b ≡ None ↔ NotRefused l b
 unfolding deal_fault small_for_deal small_for
 deal_said l b =
     simp (or_else_none, numbered-none, among_none, among_end, failed) (
@@ -179,7 +178,7 @@ unfolding deal_fault
 deal-numbered l b = tells_either Above0 _ _ (job-numbered b) (tells_either Above0 _ _ (above0 21 _ refl) (above0 11 _ refl))
 
 -- THE BUFFER THAT IS ASKED FOR IS ENOUGH
-pub deal-enough : (l : Lent) (b : List ℕ) → AreBytes b → deal_fault l b ≡ none → length (dealt_bytes b) ≤ l.output
+pub deal-enough : (l : Lent) (b : List ℕ) → AreBytes b → deal_fault l b ≡ None → length (dealt_bytes b) ≤ l.output
 deal-enough l b bytes e =
     let n = (deal_said l b).0 e in
     let p = accepted_proper b bytes n.accepted in

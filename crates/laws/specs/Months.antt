@@ -1,9 +1,8 @@
 -- MONTHS ONE AFTER ANOTHER, tidied between or not, are explained by their logs on one plain list. What the plain list answers hangs only on
 -- which calls it has, and with which charges.
-use Rattle.std.specs.Prelude.{ℕ, ◌≡◌, refl, List, [], ◌∷◌, ◌++◌, map, get_or}
+use Rattle.std.specs.Prelude.{ℕ, ◌≡◌, refl, List, [], ◌∷◌, ◌++◌, map, get_or, Option, None, Some}
 use Rattle.std.proofs.Common.{sym, ap, ◌∙◌}
 use Rattle.std.proofs.Math.Logic.{by_cases}
-use Rattle.std.proofs.Math.Option.{Option, none, some}
 use Rattle.std.proofs.Math.Decide.{ℕ_discrete}
 use Rattle.spec.specs.declared.Rec.{Rec}
 use Rattle.spec.specs.declared.Op.{Op}
@@ -37,7 +36,7 @@ Finds l m = (k : ℕ) → find_in l k ≡ find_in m k
 abbrev Agree : Plain → Plain → Type 0
 Agree p q = (p.code ≡ q.code) × (p.charge ≡ q.charge) × Finds p.list q.list
 
-added-finds : (l m : List Rec) (r : Rec) → find_in l r.call ≡ none → Finds l m → Finds (l ++ (r ∷ [])) (m ++ (r ∷ []))
+added-finds : (l m : List Rec) (r : Rec) → find_in l r.call ≡ None → Finds l m → Finds (l ++ (r ∷ [])) (m ++ (r ∷ []))
 added-finds l m r e h k =
     by_cases (ℕ_discrete k r.call) (λ (z : k ≡ r.call). rw z (added_own l r e ∙ sym (added_own m r (sym (h r.call) ∙ e))))
     (λ z. added_other l r k z ∙ h k ∙ sym (added_other m r k z))
@@ -53,12 +52,12 @@ plain_agree
     → Finds l m
     → Agree (plain_step kd op o told l) (plain_step kd op o told m)
 unfolding plain_step
-plain_agree Search op none told l m e h = (refl, refl, h)
-plain_agree Search op (some r) told l m e h = (refl, refl, h)
-plain_agree Insert op none told l m e h = if_both Agree (λ u. (refl, refl, h)) (λ u. (refl, refl, added-finds l m _ e h))
-plain_agree Insert op (some r) told l m e h = (refl, refl, h)
-plain_agree Delete op none told l m e h = (refl, refl, h)
-plain_agree Delete op (some r) told l m e h = if_both Agree (λ u. (refl, refl, without-finds l m op.call h)) (λ u. (refl, refl, h))
+plain_agree Search op None told l m e h = (refl, refl, h)
+plain_agree Search op (Some r) told l m e h = (refl, refl, h)
+plain_agree Insert op None told l m e h = if_both Agree (λ u. (refl, refl, h)) (λ u. (refl, refl, added-finds l m _ e h))
+plain_agree Insert op (Some r) told l m e h = (refl, refl, h)
+plain_agree Delete op None told l m e h = (refl, refl, h)
+plain_agree Delete op (Some r) told l m e h = if_both Agree (λ u. (refl, refl, without-finds l m op.call h)) (λ u. (refl, refl, h))
 
 ask_agree : (ops : List Op) (answers : List Told) (g : Line) (l m : List Rec) → Finds l m → Agree (ask_line ops answers g l) (ask_line ops answers g m)
 unfolding ask_line

@@ -1,8 +1,7 @@
 -- The tariff: when a call is not refused, and what is then so of the output.
-use Rattle.std.specs.Prelude.{ℕ, ◌*◌, ◌/◌, ◌%◌, ◌<◌, ◌≤◌, ◌≡◌, refl, ◌↔◌, List, [], ◌++◌, map, length, get_or, drop}
+use Rattle.std.specs.Prelude.{ℕ, ◌*◌, ◌/◌, ◌%◌, ◌<◌, ◌≤◌, ◌≡◌, refl, ◌↔◌, List, [], ◌++◌, map, length, get_or, drop, None}
 use Rattle.std.proofs.Common.{sym, ◌∙◌, append_assoc, append-nil, arith}
 use Rattle.std.proofs.Math.Path.{ap}
-use Rattle.std.proofs.Math.Option.{none}
 use Rattle.std.proofs.Math.ListN.{length-map, get_or-map}
 use Rattle.std.proofs.Math.Seq.{drop_at}
 use Rattle.spec.specs.Basics.{each, first_of, Each, end}
@@ -36,11 +35,11 @@ use Rattle.laws.specs.Tariff.{codes_apart, own_band, logged_good}
 pub record NotRefused (room : ℕ) (t l : List ℕ) : Type 0 where
   pub whole_bands : length t % band_size ≡ 0
   pub whole_records : length l % logged_size ≡ 0
-  pub bands : wrong_band t ≡ none
-  pub records : wrong_logged t l ≡ none
+  pub bands : wrong_band t ≡ None
+  pub records : wrong_logged t l ≡ None
   pub enough : op_size * length (switch_log l) ≤ room
 
-pub price_said : (room : ℕ) (t l : List ℕ) → tariff_fault room t l ≡ none ↔ NotRefused room t l
+pub price_said : (room : ℕ) (t l : List ℕ) → tariff_fault room t l ≡ None ↔ NotRefused room t l
 unfolding tariff_fault broken_tariff broken_log not_whole small_for_inserts
 price_said room t l =
     simp (or_else_none, numbered-none, failed) (
@@ -78,7 +77,7 @@ module _ (t l : List ℕ) where
   cut post = rw (← inserts-count) (parts_each op_bytes op_size (inserts t l) post (every length-op (inserts t l)))
 
 -- THE BUFFER THAT IS ASKED FOR IS ENOUGH
-pub price_enough : (room : ℕ) (t l : List ℕ) → tariff_fault room t l ≡ none → length (insert_bytes t l) ≤ room
+pub price_enough : (room : ℕ) (t l : List ℕ) → tariff_fault room t l ≡ None → length (insert_bytes t l) ≤ room
 price_enough room t l e = rw size ((price_said room t l).0 e).enough
 
 -- ---- the inserts of a log whose records are not refused
@@ -89,7 +88,7 @@ call-small l i h =
     let ps = parts (length l / logged_size) logged_size l in
     rw (get_or-map logged_of ps i []) (long_lt (get_or ps i []) (each_or ps i [] end (parts-bytes (length l / logged_size) logged_size l h)) 0)
 
-module _ (t l : List ℕ) (bytes : AreBytes l) (e : wrong_logged t l ≡ none) where
+module _ (t l : List ℕ) (bytes : AreBytes l) (e : wrong_logged t l ≡ None) where
   fits : (i : ℕ) → i < length (switch_log l) → charge_of (bands_of t) (get_or (switch_log l) i no_logged) ≤ max_charge
   fits i u = (logged_good t l i e u).1
 
@@ -101,14 +100,14 @@ module _ (t l : List ℕ) (bytes : AreBytes l) (e : wrong_logged t l ≡ none) w
       ((each_places (switch_log l) no_logged).1
       (λ k u. record { fits = record { call = call-small l k bytes; charge = omega (arith, fits k u) }; charge = λ n. absurd (let z = ap kind_number n in omega arith) }))
 
-  fine : (h : Header) (post : List ℕ) → first_of (op_fault h) 0 (parts (length (switch_log l)) op_size (insert_bytes t l ++ post)) ≡ none
+  fine : (h : Header) (post : List ℕ) → first_of (op_fault h) 0 (parts (length (switch_log l)) op_size (insert_bytes t l ++ post)) ≡ None
   fine h post = rw (cut t l post) ((ops_said h _).1 ((each_map op_bytes (inserts t l)).1 (each_imp op_passes inserts_proper)))
 
   reads : (post : List ℕ) → map op_of (parts (length (switch_log l)) op_size (insert_bytes t l ++ post)) ≡ inserts t l
   reads post = ap (map op_of) (cut t l post) ∙ map_back op_of op_bytes (each_imp (λ o p. op_back o p.fits) inserts_proper)
 
   -- behind a charge file
-  module _ (b : List ℕ) (file : AreBytes b) (accepted : Accepted b) (no_ops : ops_present b ≡ none) (few : length (switch_log l) ≤ max_ops) where
+  module _ (b : List ℕ) (file : AreBytes b) (accepted : Accepted b) (no_ops : ops_present b ≡ None) (few : length (switch_log l) ≤ max_ops) where
     abbrev together : Job
     together = record { file = file_of b; ops = inserts t l; turns = [] }
 

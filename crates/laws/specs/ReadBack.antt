@@ -1,7 +1,7 @@
 -- Read-back: what is read from the bytes of a result is the result; its charge file is accepted as a job, and says just the file after the last turn.
-use Rattle.std.specs.Prelude.{ℕ, suc, ◌^◌, ◌<◌, ◌≤◌, ◌≡◌, List, [], ◌∷◌, ◌++◌, map, length, get_or}
+use Rattle.std.specs.Prelude.{ℕ, suc, ◌^◌, ◌<◌, ◌≤◌, ◌≡◌, List, [], ◌∷◌, ◌++◌, map, length, get_or, None, Some}
 use Rattle.std.proofs.Common.{sym, ◌∙◌, arith, eqb-true}
-use Rattle.std.proofs.Math.Option.{none, some, none-ne-some, some-injective}
+use Rattle.std.proofs.lemmas.Option.{none-some, same_Some}
 use Rattle.std.proofs.lemmas.List.{length-map}
 use Rattle.spec.specs.declared.Op.{Op}
 use Rattle.spec.specs.Basics.{Each, end}
@@ -66,12 +66,12 @@ under-le [] = omega arith
 under-le (r ∷ rs) = if_case (λ n. n ≤ suc (length rs)) (λ e. omega (arith, under-le rs)) (λ e. omega (arith, under-le rs))
 
 -- where there is a charge file, no operation is under way
-filed_ended : (j : Job) (f : List ℕ) → (result j).file ≡ some f → (result j).unended ≡ 0
+filed_ended : (j : Job) (f : List ℕ) → (result j).file ≡ Some f → (result j).unended ≡ 0
 unfolding result result_of file_left
 filed_ended j f =
-    if_case (λ o. o ≡ some f → count_under (run j).rows ≡ 0) (λ t e. eqb-true _ _ t) (λ t e. absurd (none-ne-some f e))
+    if_case (λ o. o ≡ Some f → count_under (run j).rows ≡ 0) (λ t e. eqb-true _ _ t) (λ t e. absurd (none-some f e))
 
-module _ (b : List ℕ) (bytes : AreBytes b) (accepted : job_fault b ≡ none) where
+module _ (b : List ℕ) (bytes : AreBytes b) (accepted : job_fault b ≡ None) where
   abbrev j : Job
   j = job_of b
 
@@ -82,7 +82,7 @@ module _ (b : List ℕ) (bytes : AreBytes b) (accepted : job_fault b ≡ none) w
   w = end_whole j proper.file
 
   -- THE CHARGE FILE in the result is bytes, accepted as a job with no fault about them, and is the file after the last turn
-  filed : (f : List ℕ) → (result j).file ≡ some f → AreBytes f × IsFile f (run j).file
+  filed : (f : List ℕ) → (result j).file ≡ Some f → AreBytes f × IsFile f (run j).file
   unfolding encode_file
   filed f e =
       rw (← is_that)
@@ -98,12 +98,12 @@ module _ (b : List ℕ) (bytes : AreBytes b) (accepted : job_fault b ≡ none) w
       fits x n = (narrow j proper).0 x
 
       is_that : encode_file (run j).file ≡ f
-      is_that = some-injective _ _ (sym (final_file j ended) ∙ e)
+      is_that = same_Some _ _ (sym (final_file j ended) ∙ e)
 
-  pub file-bytes : (f : List ℕ) → (result j).file ≡ some f → AreBytes f
+  pub file-bytes : (f : List ℕ) → (result j).file ≡ Some f → AreBytes f
   file-bytes f e = (filed f e).0
 
-  pub read_back : (f : List ℕ) → (result j).file ≡ some f → IsFile f (run j).file
+  pub read_back : (f : List ℕ) → (result j).file ≡ Some f → IsFile f (run j).file
   read_back f e = (filed f e).1
 
   -- the numbers of the result fit their fields

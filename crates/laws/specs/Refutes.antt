@@ -2,11 +2,10 @@
 -- Each is shown from the field's statement alone. No law on turns or bytes is used, and no definition of the machine is opened, so it holds
 -- whatever the machine is, and whatever the result: one on which one of the fourteen tests is false does not explain the job (`passes`),
 -- and where one of the two of `InOrder` is false, some page is out of order (`in_order_passes`).
-use Rattle.std.specs.Prelude.{ℕ, zero, suc, ◌<◌, ◌≤◌, ◌≡◌, refl, ◌⊎◌, List, [], ◌∷◌, Bool, true, false, ◌&&◌, ◌||◌, length, get_or, eqb, ltb}
+use Rattle.std.specs.Prelude.{ℕ, zero, suc, ◌<◌, ◌≤◌, ◌≡◌, refl, ◌⊎◌, List, [], ◌∷◌, Bool, true, false, ◌&&◌, ◌||◌, length, get_or, eqb, ltb, Option, None, Some}
 use Rattle.std.proofs.Common.{ap, inl, inr, arith}
 use Rattle.std.proofs.Math.Bool.{not, or-true}
 use Rattle.std.proofs.lemmas.Bool.{false≢true}
-use Rattle.std.proofs.Math.Option.{Option, none, some}
 use Rattle.std.proofs.Math.Decide.{ℕ_discrete}
 use borrow.Author.Tests.{eqb-true, eqb-false, eq-eqb, ne_eqb, lt-ltb, not-false}
 use Rattle.spec.specs.declared.Rec.{Rec}
@@ -89,8 +88,8 @@ unfolding same_found
 same_found_true {a} e = rw (← e) (go a)
   where
     go : (o : Option Rec) → same_found o o ≡ true
-    go none = refl
-    go (some r) = same_rec_true r
+    go None = refl
+    go (Some r) = same_rec_true r
 
 same_reply_true : (a : Reply) → same_reply a a ≡ true
 unfolding same_reply
@@ -178,10 +177,10 @@ same_file_true f =
     is_and (is_and (is_and (is_and (is_and (eqb_same f.g) (eqb_same f.c)) (eqb_same f.limit)) (eqb_same f.used)) (same_true eqb eqb_same {xs = f.directory} refl))
     (same_true same_page same_page_true {xs = f.table} refl)
 
-is_file_true : (o : Option (List ℕ)) (h : File) → ((b : List ℕ) → o ≡ some b → IsFile b h) → is_file o h ≡ true
+is_file_true : (o : Option (List ℕ)) (h : File) → ((b : List ℕ) → o ≡ Some b → IsFile b h) → is_file o h ≡ true
 unfolding is_file is_some
-is_file_true none h e = refl
-is_file_true (some b) h e = let k = e b refl in rw (k.0, k.1) (is_and (is_and (same_file_true h) (eqb_same 0)) (eqb_same 0))
+is_file_true None h e = refl
+is_file_true (Some b) h e = let k = e b refl in rw (k.0, k.1) (is_and (is_and (same_file_true h) (eqb_same 0)) (eqb_same 0))
 
 -- The fields, in the claim's order.
 module _ (j : Job) (r : Result) (e : Explained j r) where

@@ -1,9 +1,8 @@
 -- A test that fails refutes the claim: where a field of `PagesTold` holds, the test of that name in WeighedPages is true. As in Refutes, each is shown
 -- from the field's statement alone, whatever the machine is, and whatever the result.
-use Rattle.std.specs.Prelude.{ℕ, suc, ◌≤◌, ◌≡◌, refl, true, false, get_or, eqb}
+use Rattle.std.specs.Prelude.{ℕ, suc, ◌≤◌, ◌≡◌, refl, true, false, get_or, eqb, Option, Some}
 use Rattle.std.proofs.Common.{sym, ap, ◌∙◌, arith}
 use Rattle.std.proofs.lemmas.Bool.{false≢true}
-use Rattle.std.proofs.Math.Option.{Option, some}
 use borrow.Author.Tests.{eqb-true, eqb-false, eq-eqb, lt-ltb, not-false}
 use Rattle.spec.specs.declared.Rec.{Rec}
 use Rattle.spec.specs.declared.Kind.{Kind}
@@ -31,15 +30,15 @@ unfolding is_search
 not_search k f e = false≢true (sym f ∙ ap is_search e)
 
 -- an operation that stood at a stage for which f gives page x
-at_page_true : (f : Stage → Option ℕ) (x : ℕ) (j : Job) (i : ℕ) (st : Stage) (t : ℕ) → f st ≡ some x → Stood j i st t → at_page f x j i t ≡ true
+at_page_true : (f : Stage → Option ℕ) (x : ℕ) (j : Job) (i : ℕ) (st : Stage) (t : ℕ) → f st ≡ Some x → Stood j i st t → at_page f x j i t ≡ true
 unfolding at_page is_number
 at_page_true f x j i st t e h = is_and (eq-eqb _ _ h.named) (rw (h.stage, e) (eq-eqb x x refl))
 
-page-read : (x : ℕ) → page_read (ReadPage x) ≡ some x
+page-read : (x : ℕ) → page_read (ReadPage x) ≡ Some x
 unfolding page_read
 page-read x = refl
 
-page-decided : (x : ℕ) → page_decided (Held x Decide) ≡ some x
+page-decided : (x : ℕ) → page_decided (Held x Decide) ≡ Some x
 unfolding page_decided is_decide when
 page-decided x = refl
 
@@ -94,7 +93,7 @@ module _ (j : Job) (r : Result) (e : PagesTold j r) where
       is_or
       (λ t.
       let (u, read, has) = e.finds i (eqb-true _ _ (not-false _ t)) in
-      some-true _ (read_then j r i (some (rec_told j r i))) u read.read.within (read_then_true j r i _ u read has)))
+      some-true _ (read_then j r i (Some (rec_told j r i))) u read.read.within (read_then_true j r i _ u read has)))
 
   lacks-true : lacks j r ≡ true
   unfolding lacks

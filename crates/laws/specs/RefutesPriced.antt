@@ -1,10 +1,9 @@
 -- A test that fails refutes the claim: where a field of `Priced` or of `InJob` holds of every tariff and log that are not refused, the test of that
 -- name in WeighedPriced is true. As in Refutes, each is shown from the field's statement alone, whatever the definitions of the tariff are.
-use Rattle.std.specs.Prelude.{◌≡◌, refl, ℕ, suc, ◌<◌, List, [], ◌∷◌, Bool, true, false, length, get_or}
+use Rattle.std.specs.Prelude.{◌≡◌, refl, ℕ, suc, ◌<◌, List, [], ◌∷◌, Bool, true, false, length, get_or, Option, None, Some}
 use Rattle.std.proofs.Math.Path.{ap}
 use Rattle.std.proofs.Math.Bool.{not}
 use Rattle.std.proofs.Common.{true≢false, arith}
-use Rattle.std.proofs.Math.Option.{Option, none, some}
 use Rattle.std.proofs.Math.Dec.{eqb}
 use borrow.Author.Tests.{eq-eqb, ne_eqb, le-leb, lt-ltb}
 use Rattle.spec.specs.Basics.{each}
@@ -18,10 +17,10 @@ use Rattle.laws.specs.Codec.Tools.{each_places}
 use Rattle.laws.specs.Refutes.{is_and, is_or, eqb_same, same_true}
 use Rattle.laws.specs.WeighedPriced.{Call, unless, numbers, distinct, apart, one, fits, size, cut, fine, reads, bytes, accepted, says}
 
-nothing : {A : Type 0} (o : Option A) → is_some o ≡ false → o ≡ none
+nothing : {A : Type 0} (o : Option A) → is_some o ≡ false → o ≡ None
 unfolding is_some
-nothing none e = refl
-nothing (some x) e = absurd (true≢false e)
+nothing None e = refl
+nothing (Some x) e = absurd (true≢false e)
 
 -- codes that are apart by their places
 distinct_true
@@ -40,7 +39,7 @@ pub record Holds (c : Call) : Type 0 where
   pub priced : Priced c.tariff c.log
   pub job : InJob c.tariff c.log c.file
 
-module _ (c : Call) (e : tariff_fault 1000 c.tariff c.log ≡ none → Holds c) where
+module _ (c : Call) (e : tariff_fault 1000 c.tariff c.log ≡ None → Holds c) where
   taken : {test : Bool} → (Holds c → test ≡ true) → unless c test ≡ true
   unfolding unless
   taken h = is_or (λ z. h (e (nothing _ z)))

@@ -1,6 +1,5 @@
 -- The least result buffer is enough: the result of an accepted job has at most 24 + 12m bytes and the charge file's.
-use Rattle.std.specs.Prelude.{ℕ, ◌≤◌, ◌≡◌, List, length}
-use Rattle.std.proofs.Math.Option.{none}
+use Rattle.std.specs.Prelude.{ℕ, ◌≤◌, ◌≡◌, List, length, None}
 use Rattle.std.proofs.Common.{arith, eqb-true}
 use Rattle.std.proofs.lemmas.List.{length-map}
 use Rattle.spec.specs.Job.{Job, table_offset, ops_offset, file_length}
@@ -33,7 +32,7 @@ accepted-room : (b : List ℕ) → FileOk (job_of b).file → length (file_bytes
 unfolding file_length ops_offset table_offset header_for job_of file_of
 accepted-room b ok = file-room (job_of b) ok
 
-pub result_fits : (b : List ℕ) → job_fault b ≡ none → length (result_bytes b) ≤ result_size (header_of b)
+pub result_fits : (b : List ℕ) → job_fault b ≡ None → length (result_bytes b) ≤ result_size (header_of b)
 unfolding result_bytes result_size result result_of
 result_fits b accepted =
     let ok = accepted-file b accepted in

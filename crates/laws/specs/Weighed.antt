@@ -2,8 +2,7 @@
 -- result that is read from the bytes that are written.
 -- For each field there is a changed definition under which its test fails on one of these jobs (tests/edits), so no field is there for nothing.
 -- That a test is true where its field holds is proved in Refutes: a test that fails refutes the claim. `PagesTold` is weighed in WeighedPages.
-use Rattle.std.specs.Prelude.{ℕ, zero, suc, ◌≡◌, refl, List, [], ◌∷◌, ◌++◌, map, Bool, true, false, not, ◌&&◌, ◌||◌, length, get_or, replicate, ltb, eqb}
-use Rattle.std.proofs.Math.Option.{Option, none, some}
+use Rattle.std.specs.Prelude.{ℕ, zero, suc, ◌≡◌, refl, List, [], ◌∷◌, ◌++◌, map, Bool, true, false, not, ◌&&◌, ◌||◌, length, get_or, replicate, ltb, eqb, Option, None, Some}
 use Rattle.spec.specs.declared.Rec.{Rec}
 use Rattle.spec.specs.declared.Op.{Op}
 use Rattle.spec.specs.declared.Kind.{Kind}
@@ -37,10 +36,10 @@ unfoldable pub same_rec : Rec → Rec → Bool
 same_rec a b = eqb a.call b.call && eqb a.charge b.charge
 
 unfoldable pub same_found : Option Rec → Option Rec → Bool
-same_found none none = true
-same_found none (some b) = false
-same_found (some a) none = false
-same_found (some a) (some b) = same_rec a b
+same_found None None = true
+same_found None (Some b) = false
+same_found (Some a) None = false
+same_found (Some a) (Some b) = same_rec a b
 
 unfoldable pub same_reply : Reply → Reply → Bool
 same_reply a b = eqb a.code b.code && eqb a.charge b.charge
@@ -78,8 +77,8 @@ same_file f h =
 
 -- the bytes of a charge file, where there is one: accepted as a job, which has no operations and no turns, and is this file
 unfoldable pub is_file : Option (List ℕ) → File → Bool
-is_file none h = true
-is_file (some b) h =
+is_file None h = true
+is_file (Some b) h =
     not (is_some (job_fault b))
     && same_file (job_of b).file h
     && eqb (length (job_of b).ops) 0

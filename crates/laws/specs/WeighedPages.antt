@@ -2,8 +2,7 @@
 -- and the jobs there, on which every test passes.
 -- For each field there is a changed definition under which its test fails (tests/edits), and a wrong result on which it does (WrongPages).
 -- That a test that fails refutes the claim is proved in RefutesPages.
-use Rattle.std.specs.Prelude.{ℕ, suc, refl, Bool, true, false, not, ◌&&◌, ◌||◌, length, get_or, ltb, eqb}
-use Rattle.std.proofs.Math.Option.{Option, none, some}
+use Rattle.std.specs.Prelude.{ℕ, suc, refl, Bool, true, false, not, ◌&&◌, ◌||◌, length, get_or, ltb, eqb, Option, None, Some}
 use Rattle.spec.specs.declared.Rec.{Rec}
 use Rattle.spec.specs.declared.Task.{Task}
 use Rattle.spec.specs.declared.Task.TheVariants.{Verify, Release, Decide, WritePage, WriteOld, Unlock}
@@ -26,13 +25,13 @@ is_page f x = ltb 0 x && ltb x (suc f.used)
 
 -- the page that a search at this stage reads on its next turn, and the page on which an operation at this stage decides
 unfoldable pub page_read : Stage → Option ℕ
-page_read NotBegun = none
-page_read (ReadPage x) = some x
-page_read (Reread x t) = none
-page_read (Lock x) = none
-page_read (Held x t) = none
-page_read (Split x b n q) = none
-page_read Done = none
+page_read NotBegun = None
+page_read (ReadPage x) = Some x
+page_read (Reread x t) = None
+page_read (Lock x) = None
+page_read (Held x t) = None
+page_read (Split x b n q) = None
+page_read Done = None
 
 unfoldable pub is_decide : Task → Bool
 is_decide Verify = false
@@ -43,22 +42,22 @@ is_decide WriteOld = false
 is_decide Unlock = false
 
 unfoldable pub page_decided : Stage → Option ℕ
-page_decided NotBegun = none
-page_decided (ReadPage x) = none
-page_decided (Reread x t) = none
-page_decided (Lock x) = none
+page_decided NotBegun = None
+page_decided (ReadPage x) = None
+page_decided (Reread x t) = None
+page_decided (Lock x) = None
 page_decided (Held x t) = when (is_decide t) x
-page_decided (Split x b n q) = none
-page_decided Done = none
+page_decided (Split x b n q) = None
+page_decided Done = None
 
 -- turn t was operation i's, and f gave a page for its stage; and that was page x
 unfoldable pub is_given : Option ℕ → Bool
-is_given none = false
-is_given (some y) = true
+is_given None = false
+is_given (Some y) = true
 
 unfoldable pub is_number : ℕ → Option ℕ → Bool
-is_number x none = false
-is_number x (some y) = eqb y x
+is_number x None = false
+is_number x (Some y) = eqb y x
 
 unfoldable pub at_some : (Stage → Option ℕ) → Job → ℕ → ℕ → Bool
 at_some f j i t = eqb (get_or j.turns t 0) i && is_given (f (stage_of (state_at j t) i))
@@ -91,7 +90,7 @@ in_use j r = every (length r.answers) (λ i. eqb (code_of r i) not_yet || is_pag
 -- did a found search last read the page told, and did that have the call with the charge told when it was read?
 unfoldable pub finds : Job → Result → Bool
 finds j r =
-    every (length r.answers) (λ i. not (eqb (code_of r i) found) || some_of (length j.turns) (read_then j r i (some (rec_told j r i))))
+    every (length r.answers) (λ i. not (eqb (code_of r i) found) || some_of (length j.turns) (read_then j r i (Some (rec_told j r i))))
 
 -- did a search that found none last read the page told, at its moment, and did that not have the call?
 unfoldable pub lacks : Job → Result → Bool
@@ -99,7 +98,7 @@ lacks j r =
     every (length r.log)
     (λ p.
     not (eqb (code_of r (line_at r p).op) not_found)
-    || (ltb (line_at r p).moment (length j.turns) && read_then j r (line_at r p).op none (line_at r p).moment))
+    || (ltb (line_at r p).moment (length j.turns) && read_then j r (line_at r p).op None (line_at r p).moment))
 
 -- does the page told for a stored insert have the call with its charge at its moment?
 unfoldable pub holds : Job → Result → Bool
@@ -107,7 +106,7 @@ holds j r =
     every (length r.log)
     (λ p.
     not (eqb (code_of r (line_at r p).op) stored)
-    || same_found (in_page (file_then j r p) (line_told r p) (op_at j r p).call) (some (rec_of (op_at j r p))))
+    || same_found (in_page (file_then j r p) (line_told r p) (op_at j r p).call) (Some (rec_of (op_at j r p))))
 
 -- did every other insert or delete that has an answer decide on the page told?
 unfoldable pub decides : Job → Result → Bool

@@ -2,8 +2,7 @@
 -- and a charge file, and some on which every test passes. A tariff and a log that are refused pass, since of them nothing is claimed: three of those
 -- here must be, and a definition that takes them fails. For each field there is a changed definition under which its test fails (tests/edits).
 -- That a test that fails refutes the claim is proved in RefutesPriced.
-use Rattle.std.specs.Prelude.{ℕ, ◌*◌, ◌≡◌, refl, List, [], ◌∷◌, ◌++◌, map, Bool, true, not, ◌&&◌, ◌||◌, length, ltb, leb, eqb}
-use Rattle.std.proofs.Math.Option.{Option, none, some}
+use Rattle.std.specs.Prelude.{ℕ, ◌*◌, ◌≡◌, refl, List, [], ◌∷◌, ◌++◌, map, Bool, true, not, ◌&&◌, ◌||◌, length, ltb, leb, eqb, Option, None, Some}
 use Rattle.spec.specs.Basics.{each, first_of, all_of}
 use Rattle.spec.specs.Bytes.{two, four, parts}
 use Rattle.spec.specs.Job.{Job, op_size}
@@ -29,8 +28,8 @@ unless c test = is_some (tariff_fault 1000 c.tariff c.log) || test
 
 -- a band in numbers; there may be none
 unfoldable pub numbers : Option Band → List ℕ
-numbers none = []
-numbers (some b) = b.code ∷ b.free ∷ b.unit ∷ b.fee ∷ b.prices
+numbers None = []
+numbers (Some b) = b.code ∷ b.free ∷ b.unit ∷ b.fee ∷ b.prices
 
 -- no two of some bands have one code
 unfoldable pub distinct : List Band → Bool
@@ -46,7 +45,7 @@ apart c = unless c (distinct (bands_of c.tariff))
 unfoldable pub one : Call → Bool
 one c =
     let bands : List Band = bands_of c.tariff in
-    unless c (all_of (λ (b : Band). same eqb (numbers (band_for bands b.code)) (numbers (some b))) bands)
+    unless c (all_of (λ (b : Band). same eqb (numbers (band_for bands b.code)) (numbers (Some b))) bands)
 
 -- does every charge fit?
 unfoldable pub fits : Call → Bool

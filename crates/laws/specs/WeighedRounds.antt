@@ -3,8 +3,7 @@
 -- machines that keep a lock, under which rounds no longer finish everybody.
 -- That a test that fails refutes the claim is proved in RefutesRounds. (`fewer` and `in_turns` have no test: they hold whatever the machine is, and the
 -- tests rest on the second.)
-use Rattle.std.specs.Prelude.{ℕ, ◌*◌, refl, List, [], ◌∷◌, ◌++◌, Bool, false, not, ◌&&◌, ◌||◌, length, eqb}
-use Rattle.std.proofs.Math.Option.{Option, none, some}
+use Rattle.std.specs.Prelude.{ℕ, ◌*◌, refl, List, [], ◌∷◌, ◌++◌, Bool, false, not, ◌&&◌, ◌||◌, length, eqb, Option, None, Some}
 use Rattle.spec.specs.declared.Rec.{Rec}
 use Rattle.spec.specs.declared.Op.{Op}
 use Rattle.spec.specs.declared.Kind.TheVariants.{Search, Insert, Delete}
@@ -48,8 +47,8 @@ stay j r =
 
 -- has the result every answer? Is none under way, and is there a charge file, the file after the last turn?
 unfoldable pub same_bytes : Option (List ℕ) → List ℕ → Bool
-same_bytes none c = false
-same_bytes (some b) c = same eqb b c
+same_bytes None c = false
+same_bytes (Some b) c = same eqb b c
 
 unfoldable pub lacks_nothing : Job → Result → Bool
 lacks_nothing j r =

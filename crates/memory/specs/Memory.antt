@@ -1,9 +1,10 @@
 -- The working memory of a run: what stands where, and the memory with one thing changed.
-use Rattle.std.specs.Prelude.{ℕ, ◌+◌, ◌*◌, List, take, drop, replicate}
+use Rattle.std.specs.Prelude.{ℕ, ◌+◌, ◌*◌, ◌≤◌, ◌≡◌, List, take, drop, replicate}
 use Rattle.spec.specs.Bytes.{byte, word, two}
 use Rattle.spec.specs.declared.Found.{Found}
 use Rattle.spec.specs.File.{Page, look_in, found_of}
 use Rattle.spec.specs.Job.{page_size}
+use Rattle.spec.specs.Check.{work_size}
 use Rattle.spec.specs.Decode.{page_of}
 use Rattle.spec.specs.Encode.{page_bytes}
 use Rattle.wire.specs.Over.{over}
@@ -53,6 +54,12 @@ with_turn w e d v = over w (turns_at + 2 * (8 * e + d)) (two v)
 -- page x, of capacity c: its place, its bytes, what they say, and another page written in its place
 unfoldable pub place_of : ℕ → ℕ → ℕ
 place_of c x = pages_at + page_size c * x
+
+-- page x stands from place `at` to place e
+pub record Stands (c x at e : ℕ) : Type 0 where
+  pub begins : at ≡ place_of c x
+  pub ends : e ≡ place_of c x + page_size c
+  pub within : e ≤ work_size
 
 unfoldable pub part_in : ℕ → List ℕ → ℕ → List ℕ
 part_in c w x = take (page_size c) (drop (place_of c x) w)

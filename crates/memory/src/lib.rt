@@ -1,7 +1,9 @@
 // The working memory of a run, in one lent buffer: the directory, the locks, the pages in use, the turns on which entries were changed, and the
 // pages. specs/Memory.antt says what stands where. A reader says what stands in the memory, and a writer leaves the memory with one thing
 // changed, so that the laws of specs/ tell what every reader then reads.
-#![tactic(auto)]
+// (What is asked of the memory, its size and `Within`, stands in no type: a struct over the lent bytes would need of each writer a clause more, that they
+// are still the same bytes. What is asked of the numbers x, j, i and n stands in none either: rows and entries keep them as plain numbers.)
+#![tactic(auto, unfolding(crate::specs::Memory::entry_in, crate::specs::Memory::with_entry, crate::specs::Memory::lock_in, crate::specs::Memory::used_in, crate::specs::Memory::with_used, crate::specs::Memory::turn_in, crate::specs::Memory::with_turn, crate::specs::Memory::page_in))]
 
 ghost use Rattle.std.specs.Prelude.{◌≡◌, not, ℕ, suc, ◌+◌, ◌-◌, ◌≤◌, ◌<◌, eqb, length, get_or, take, drop, replicate};
 ghost use Rattle.spec.specs.Bytes.{byte, word};
@@ -12,11 +14,12 @@ ghost use Rattle.spec.specs.Split.{added, grow, least_shared, split_count};
 ghost use Rattle.spec.specs.Turn.{cleared};
 ghost use Rattle.wire.specs.Over.{over};
 ghost use Rattle.pieces.specs.Splits.{Splits, Enough};
-ghost use Rattle.memory.specs.Memory.{entry_in, with_entry, lock_in, with_locks, used_in, with_used, turn_in, with_turn, place_of, part_in, page_in, with_page, found_in};
+ghost use Rattle.memory.specs.Memory.{entry_in, with_entry, lock_in, with_locks, used_in, with_used, turn_in, with_turn, Stands, part_in, page_in, with_page, found_in};
 ghost use Rattle.memory.specs.Within.{Within, FileIn, Loads};
 ghost use Rattle.memory.specs.Load.{loaded, saved};
 
 use spec::{Found, Rec};
+use std::ops::Range;
 
 // What does not change in a run: global depth g, capacity c and page count P.
 #[derive(Clone, Copy)]
@@ -34,7 +37,8 @@ pub const TURNS: usize = 1026;
 
 const PAGES: usize = 5122;
 
-// ---- reading numbers
+// ---- reading numbers. (A function for each, here and where they are written: each has a definition of its own, of which the
+// contracts of a turn speak.)
 
 // Page and turn numbers are kept as u16.
 fn number_at(work: &[u8], at: usize) -> u16
@@ -75,14 +79,25 @@ pub fn change_turn(work: &[u8], e: usize, d: usize) -> u16
     number_at(work, TURNS + 2 * (8 * e + d))
 }
 
-// ---- reading pages
+// ---- reading pages. (Capacity and page number are two arguments: callers have the one in their `Shape`, and the other beside it.
+// A function for each thing that is asked of a page, and none that hands its bytes out: so `turn` knows pages by `page_in` alone.)
 
-// Where page x of capacity c begins.
-fn place(c: usize, x: u16) -> usize
-    requires { (c ≤ 8) × (x ≤ 256) }
-    ensures { (result ≡ place_of c x) × (result + page_size c ≤ work_size) }
+// The length of a page of capacity c.
+fn page_size(c: usize) -> usize
+    requires { c ≤ 8 }
+    ensures { (result ≡ page_size c) × (result ≤ 68) }
 {
-    PAGES + (4 + 8 * c) * (x as usize)
+    4 + 8 * c
+}
+
+// Where page x of capacity c stands.
+fn span(c: usize, x: u16) -> Range<usize>
+    requires { (c ≤ 8) × (x ≤ 256) }
+    ensures { Stands c x result.start result.end }
+{
+    let size = page_size(c);
+    let at = PAGES + size * x as usize;
+    at..at + size
 }
 
 // The bytes of page x.
@@ -90,9 +105,7 @@ fn part(work: &[u8], c: usize, x: u16) -> &[u8]
     requires { Within work.now c x }
     ensures { (result.now ≡ part_in c work.now x) × (length result.now ≡ page_size c) × (byte result.now 1 ≡ length (page_in c work.now x).records) }
 {
-    let a = place(c, x);
-    let e = a + (4 + 8 * c);
-    &work[a..e]
+    &work[span(c, x)]
 }
 
 pub fn page_depth(work: &[u8], c: usize, x: u16) -> usize
@@ -147,18 +160,14 @@ pub fn set_entry(work: &mut [u8], j: usize, v: u16)
     wire::put_u16(work, 2 * j, v as usize);
 }
 
-// The locks of n pages, from page x on.
+// The locks of n pages, from page x on. (Any byte, and no `bool`: `with_locks` is of x, n and any byte, and a narrower type
+// would ask more of callers.)
 pub fn set_locks(work: &mut [u8], x: u16, n: u16, v: u8)
     requires { (work_size ≤ length work.old) × (x + n ≤ 257) }
     ensures { work.new ≡ with_locks work.old x n v }
 {
     let at = LOCKS + x as usize;
-    let end = n as usize;
-    let mut i: usize = 0;
-    while i < end {
-        work[at + i] = v;
-        i += 1;
-    }
+    work[at..at + n as usize].fill(v);
 }
 
 pub fn set_used(work: &mut [u8], v: usize)
@@ -182,9 +191,7 @@ pub fn add_to(work: &mut [u8], c: usize, x: u16, r: Rec)
     requires { Within work.old c x × (length (page_in c work.old x).records < c) }
     ensures { work.new ≡ with_page c work.old x (added (page_in c work.old x) r) }
 {
-    let a = place(c, x);
-    let e = a + (4 + 8 * c);
-    page::add(&mut work[a..e], r);
+    page::add(&mut work[span(c, x)], r);
 }
 
 // "Delete closes the gap"
@@ -192,9 +199,7 @@ pub fn remove_from(work: &mut [u8], c: usize, x: u16, call: u32)
     requires { Within work.old c x × (length (page_in c work.old x).records ≤ c) }
     ensures { work.new ≡ with_page c work.old x (cleared (page_in c work.old x) call) }
 {
-    let a = place(c, x);
-    let e = a + (4 + 8 * c);
-    page::remove(&mut work[a..e], call);
+    page::remove(&mut work[span(c, x)], call);
 }
 
 // The old page of n splits. The outcome is the definition's whatever number of splits it allows, if that is enough.
@@ -202,29 +207,7 @@ pub fn write_old_page(work: &mut [u8], c: usize, x: u16, n: usize, r: Rec)
     requires { Within work.old c x × Splits c (page_in c work.old x) r × (n ≡ split_count (page_in c work.old x) r.call) }
     ensures { (g : ℕ) → Enough g (page_in c work.old x) r → work.new ≡ with_page c work.old x (grow c (suc g) (page_in c work.old x) r).old }
 {
-    let a = place(c, x);
-    let e = a + (4 + 8 * c);
-    pieces::write_old(&mut work[a..e], n, r);
-}
-
-// n bytes, from a lower place to a higher one that they do not reach.
-fn copy_up(s: &mut [u8], from: usize, to: usize, n: usize)
-    requires { (from + n ≤ to) × (to + n ≤ length s.old) }
-    ensures { s.new ≡ over s.old to (take n (drop from s.old)) }
-{
-    let mut i: usize = 0;
-    while i < n {
-        s[to + i] = s[from + i];
-        i += 1;
-    }
-}
-
-// A copy of page x in the place of page y, which is a later one.
-fn copy_page(work: &mut [u8], c: usize, x: u16, y: u16)
-    requires { Within work.old c y × (x < y) }
-    ensures { work.new ≡ over work.old (place_of c y) (part_in c work.old x) }
-{
-    copy_up(work, place(c, x), place(c, y), 4 + 8 * c);
+    pieces::write_old(&mut work[span(c, x)], n, r);
 }
 
 // New page number i, from 1, of n splits of page x becomes page y. It is cut out of a copy of page x.
@@ -232,10 +215,8 @@ pub fn write_new_page(work: &mut [u8], c: usize, x: u16, y: u16, n: u16, i: u16,
     requires { Within work.old c y × (x < y) × Splits c (page_in c work.old x) r × (n ≡ split_count (page_in c work.old x) r.call) × (1 ≤ i) × (i ≤ n) }
     ensures { (g : ℕ) → Enough g (page_in c work.old x) r → work.new ≡ with_page c work.old y (get_or (grow c (suc g) (page_in c work.old x) r).news (i - 1) zero_page) }
 {
-    copy_page(work, c, x, y);
-    let a = place(c, y);
-    let e = a + (4 + 8 * c);
-    pieces::write_new(&mut work[a..e], n as usize, i as usize, r);
+    work.copy_within(span(c, x), span(c, y).start);
+    pieces::write_new(&mut work[span(c, y)], n as usize, i as usize, r);
 }
 
 // ---- the whole file
@@ -246,12 +227,12 @@ pub fn load_file(work: &mut [u8], directory: &[u8], pages: &[u8], c: usize, used
     ensures { work.new ≡ loaded work.old directory.now pages.now c used }
 {
     wire::copy(directory, 0, work, 0, directory.len());
-    wire::copy(pages, 0, work, place(c, 1), pages.len());
+    wire::copy(pages, 0, work, span(c, 1).start, pages.len());
     set_used(work, used);
     set_locks(work, 0, 257, 0);
 }
 
-// The directory and the pages, as a charge file has them, from a place of the result on.
+// The directory and the pages, as a charge file has them, from a place of the result on. (`at` is no length, but where the format has them.)
 pub fn save_file(work: &[u8], entries: usize, c: usize, pages: usize, out: &mut [u8], at: usize)
     requires { FileIn work.now out.old at entries c pages }
     ensures { out.new ≡ over out.old at (saved work.now entries c pages) }
@@ -259,10 +240,10 @@ pub fn save_file(work: &[u8], entries: usize, c: usize, pages: usize, out: &mut 
     wire::copy(work, 0, out, at, 2 * entries);
     wire::copy(
         work,
-        place(c, 1),
+        span(c, 1).start,
         out,
         at + 2 * entries,
-        (4 + 8 * c) * pages,
+        page_size(c) * pages,
     );
 }
 
@@ -270,6 +251,5 @@ pub fn save_file(work: &[u8], entries: usize, c: usize, pages: usize, out: &mut 
 pub fn clear_all(work: &mut [u8])
     ensures { work.new ≡ replicate (length work.old) 0 }
 {
-    let n = work.len();
-    wire::clear(work, 0, n);
+    work.fill(0);
 }

@@ -1,6 +1,7 @@
 -- One record more among a page's: its place, the higher records moved up by one, and the bytes once it is written.
-use Rattle.std.specs.Prelude.{◌≡◌, refl, List, [], ◌∷◌, ◌++◌, ℕ, suc, ◌+◌, ◌-◌, ◌≤◌, ◌<◌, take, drop}
-use Rattle.std.proofs.Common.{sym, ap, ◌∙◌, inl, arith, take_at, drop_at, lt-ltb, le-ltb}
+use Rattle.std.specs.Prelude.{◌≡◌, refl, List, [], ◌∷◌, ◌++◌, ℕ, suc, ◌+◌, ◌-◌, ◌*◌, ◌≤◌, ◌<◌, length, take, drop}
+use Rattle.std.specs.List.{copy_within}
+use Rattle.std.proofs.Common.{sym, ap, ◌∙◌, append_assoc, arith, take_at, drop_at, lt-ltb, le-ltb}
 use Rattle.spec.specs.declared.Rec.{Rec}
 use Rattle.spec.specs.Basics.{each}
 use Rattle.spec.specs.Bytes.{byte}
@@ -11,10 +12,11 @@ use Rattle.laws.specs.Tools.{if-true, if-false, if_both}
 use Rattle.laws.specs.Codec.Parts.{each_join}
 use Rattle.laws.specs.Codec.Sections.{length_record, length-records}
 use Rattle.wire.specs.Over.{over}
-use Rattle.wire.specs.OverLaws.{over_none, over-over, over_swap}
-use Rattle.page.specs.View.{record_at, records_from, records-length, left_more, left_none, left_join}
+use Rattle.wire.specs.OverLaws.{over-over, over_swap, over_parts}
+use Rattle.wire.specs.Parts.{part_over}
+use Rattle.page.specs.View.{records_from, records-length, left_join}
 use Rattle.page.specs.Put.{place_in}
-use Rattle.page.specs.ImageLaws.{record_other, owns}
+use Rattle.page.specs.ImageLaws.{owns}
 
 pub place_none : (k : ℕ) → place_in [] k ≡ 0
 unfolding place_in
@@ -50,16 +52,25 @@ in_front s i r rs =
 abbrev pub up : List ℕ → ℕ → ℕ → List ℕ
 up s j n = over s (page_size (j + 1)) (each record_bytes (records_from s j (n - j)))
 
-pub up_none : (s : List ℕ) (n : ℕ) → up s n n ≡ s
-unfolding each
-up_none s n = rw (left_none s n n (omega arith)) (over_none s (page_size (n + 1)))
+-- as they stand, one behind another
+stood : (s : List ℕ) (i n : ℕ) → ((k : ℕ) → byte s k < 256) → page_size (i + n) ≤ length s → take (8 * n) (drop (page_size i) s) ≡ each record_bytes (records_from s i n)
+stood s i n b h =
+    let x = each record_bytes (records_from s i n) in
+    let long : length x ≡ 8 * n = omega (arith, length-records (records_from s i n), records-length s i n) in
+    rw (owns s i n b) at (part_over s x (page_size i) (8 * n) long (omega arith))
 
--- one more of them: number k, which is j - 1
-pub up_before : (s : List ℕ) (k j n : ℕ) → j ≡ k + 1 → record_at (up s j n) k ≡ record_at s k
-up_before s k j n e = record_other s _ _ k (inl (omega arith))
-
-pub up_more : (s : List ℕ) (k j n : ℕ) → j ≡ k + 1 → k < n → over (up s j n) (page_size j) (record_bytes (record_at s k)) ≡ up s k n
-up_more s k j n e l = rw (e, left_more s k n l) (in_front s (k + 1) (record_at s k) (records_from s (k + 1) (n - (k + 1))))
+-- copied one place higher
+pub moved_up
+    : (s : List ℕ) (i n : ℕ)
+    → ((k : ℕ) → byte s k < 256)
+    → i ≤ n
+    → page_size (n + 1) ≤ length s
+    → copy_within s (4 + 8 * i) (4 + 8 * n) (4 + 8 * (i + 1)) ≡ up s i n
+moved_up s i n b l h =
+    let gap : 4 + 8 * n - (4 + 8 * i) ≡ 8 * (n - i) = omega arith in
+    let x = each record_bytes (records_from s i (n - i)) in
+    let long : length x ≡ 8 * (n - i) = omega (arith, length-records (records_from s i (n - i)), records-length s i (n - i)) in
+    rw (gap, stood s i (n - i) b (omega arith), ← long) (append_assoc (take (page_size (i + 1)) s) x (drop (page_size (i + 1) + length x) s) ∙ sym (over_parts x s (page_size (i + 1)) (omega arith)))
 
 -- and the record in front of them
 put_here

@@ -1,9 +1,11 @@
 // One page's bytes: "l (1), record count (1), pattern (2), then records of call number and charge". A page is the page's part of a
 // lent slice, of any capacity: a reader says what the page is that its bytes show, and a writer leaves the bytes of a page, in which
 // "a record no longer used, here or after a split, is zero". Nothing beside the page is touched.
+// (What is asked of the bytes, be it `Sound` or less, is no field of a struct over the part: a part is lent for one call, so that each caller would build
+// `Page { bytes: &mut work[a..e] }` by the proof that `requires` asks for, and be promised something of `self.new.bytes.now` for `page.new`.)
 #![tactic(auto)]
 
-ghost use Rattle.std.specs.Prelude.{◌≡◌, ◌+◌, ◌-◌, ◌≤◌, ◌<◌, length};
+ghost use Rattle.std.specs.Prelude.{◌≡◌, Bool, ◌+◌, ◌-◌, ◌≤◌, ◌<◌, length};
 ghost use Rattle.spec.specs.Bytes.{byte};
 ghost use Rattle.spec.specs.Basics.{each};
 ghost use Rattle.spec.specs.File.{look_in, found_of, put_in};
@@ -17,7 +19,7 @@ ghost use Rattle.page.specs.Room.{room, Sound};
 ghost use Rattle.page.specs.View.{record_at, records_from};
 ghost use Rattle.page.specs.Image.{closed};
 ghost use Rattle.page.specs.Put.{place_in};
-ghost use Rattle.page.specs.Keep.{passes_of, Fine, Kept};
+ghost use Rattle.page.specs.Keep.{Tells, Kept};
 
 use spec::{Found, Rec};
 
@@ -44,7 +46,7 @@ pub fn pattern(page: &[u8]) -> usize
     wire::u16_at(page, 2)
 }
 
-// Record number i, from 0.
+// Record number i, from 0. (No `From`: a record is asked for by its number.)
 pub fn rec_at(page: &[u8], i: usize) -> Rec
     requires { page_size (i + 1) ≤ length page.now }
     ensures { result ≡ record_at page.now i }
@@ -60,22 +62,20 @@ pub fn find(page: &[u8], x: u16, call: u32) -> Found
     requires { page_size (byte page.now 1) ≤ length page.now }
     ensures { result ≡ found_of x (look_in (page_of page.now).records call) }
 {
-    let n = count(page);
-    let mut i: usize = 0;
-    while i < n {
+    for i in 0..count(page) {
         let r = rec_at(page, i);
         if call <= r.call {
-            if r.call == call {
-                return Found::Charge(x, r.charge);
-            }
-            return Found::Missing(x);
+            let charge = (r.call == call).then_some(r.charge);
+            return Found { page: x, charge };
         }
-        i += 1;
     }
-    Found::Missing(x)
+    Found {
+        page: x,
+        charge: None,
+    }
 }
 
-// ---- writing
+// ---- writing. (The number of records goes beside the bytes: `close` writes it into the head, behind all else.)
 
 // Record number i, from 0.
 fn put_rec(page: &mut [u8], i: usize, r: Rec)
@@ -99,33 +99,26 @@ pub fn close(page: &mut [u8], depth: usize, n: usize, pattern: usize)
     wire::put_u16(page, 2, pattern);
 }
 
-// How many of the first n records stand before the first with a higher number.
+// How many of the first n records stand before the first with a higher number. (Not one search with `find`, nor a halving: both contracts speak of records
+// in any order, where the first that is not lower and the first that is higher are two places.)
 fn place_of(page: &[u8], n: usize, call: u32) -> usize
     requires { page_size n ≤ length page.now }
     ensures { (result ≡ place_in (records_from page.now 0 n) call) × (result ≤ n) }
 {
-    let mut i: usize = 0;
-    while i < n {
-        let r = rec_at(page, i);
-        if call < r.call {
+    for i in 0..n {
+        if call < rec_at(page, i).call {
             return i;
         }
-        i += 1;
     }
     n
 }
 
-// The records from number i up to number n move up by one, the last of them first.
+// The records from number i up to number n move up by one.
 fn move_up(page: &mut [u8], i: usize, n: usize)
     requires { (i ≤ n) × (page_size (n + 1) ≤ length page.old) }
     ensures { page.new ≡ over page.old (page_size (i + 1)) (each record_bytes (records_from page.old i (n - i))) }
 {
-    let mut j = n;
-    while i < j {
-        let r = rec_at(page, j - 1);
-        put_rec(page, j, r);
-        j -= 1;
-    }
+    page.copy_within(4 + 8 * i..4 + 8 * n, 4 + 8 * (i + 1));
 }
 
 // One record more among the first n of a page: the higher ones move up, and it goes before them.
@@ -138,7 +131,8 @@ pub fn put_in(page: &mut [u8], n: usize, r: Rec)
     put_rec(page, i, r);
 }
 
-// An insert puts its record in its place.
+// An insert puts its record in its place. (`add` and `remove` share the head, read before and written after: one function over what comes between
+// would take a closure that writes to the page, with its contract as an argument.)
 pub fn add(page: &mut [u8], r: Rec)
     requires { Sound page.old × (byte page.old 1 < room (length page.old)) }
     ensures { page.new ≡ page_bytes (room (length page.old)) (added (page_of page.old) r) }
@@ -150,42 +144,20 @@ pub fn add(page: &mut [u8], r: Rec)
     close(page, d, n + 1, p);
 }
 
-// Which records stay: those of other calls; those whose first bits are a pattern.
-#[derive(Clone, Copy)]
-pub enum Test {
-    IsNot(u32),
-    HasIndex(usize, usize),
-}
-
-fn passes(t: Test, r: Rec) -> bool
-    requires { Fine t }
-    ensures { result ≡ passes_of t r }
+// The records that stay, moved to the front in their order; how many they are.
+pub fn keep<F: Fn(Rec) -> bool>(page: &mut [u8], stays: F) -> usize
+    requires { (page_size (byte page.old 1) ≤ length page.old) × F.IsAlwaysCallable stays }
+    ensures { (f : Rec → Bool) → Tells (F.post stays) f → Kept f page.old page.new result (byte page.old 1) }
 {
-    match t {
-        Test::IsNot(k) => r.call != k,
-        Test::HasIndex(d, p) => key::index(r.call, d) == p,
-    }
-}
-
-// The records that pass, moved to the front in their order; how many they are.
-pub fn keep(page: &mut [u8], t: Test) -> usize
-    requires { (page_size (byte page.old 1) ≤ length page.old) × Fine t }
-    ensures { Kept (passes_of t) page.old page.new result (byte page.old 1) }
-{
-    let n = count(page);
-    let mut m: usize = 0;
-    let mut j: usize = 0;
-    while j < n {
+    let mut kept = 0;
+    for j in 0..count(page) {
         let r = rec_at(page, j);
-        if passes(t, r) {
-            put_rec(page, m, r);
-            m += 1;
-            j += 1;
-        } else {
-            j += 1;
+        if stays(r) {
+            put_rec(page, kept, r);
+            kept += 1;
         }
     }
-    m
+    kept
 }
 
 // "Delete closes the gap"
@@ -195,6 +167,6 @@ pub fn remove(page: &mut [u8], call: u32)
 {
     let d = depth(page);
     let p = pattern(page);
-    let m = keep(page, Test::IsNot(call));
-    close(page, d, m, p);
+    let n = keep(page, |r| r.call != call);
+    close(page, d, n, p);
 }

@@ -1,7 +1,7 @@
 // The pieces that splits leave of a full page: how many new pages there are, what goes into each, and a page's bytes rewritten as one of them.
 #![tactic(auto)]
 
-ghost use Rattle.std.specs.Prelude.{◌≡◌, ℕ, suc, ◌+◌, ◌-◌, ◌≤◌, min, length, get_or};
+ghost use Rattle.std.specs.Prelude.{◌≡◌, ℕ, suc, ◌+◌, ◌-◌, ◌≤◌, length, get_or};
 ghost use Rattle.spec.specs.Bytes.{byte};
 ghost use Rattle.spec.specs.File.{zero_page};
 ghost use Rattle.spec.specs.Job.{page_size};
@@ -12,16 +12,9 @@ ghost use Rattle.page.specs.Room.{room, Sound};
 ghost use Rattle.pieces.specs.Piece.{kept_piece, new_piece, cut};
 ghost use Rattle.pieces.specs.Splits.{Splits, Fits, Enough};
 
-use page::Test;
 use spec::Rec;
 
 // ---- the number of splits
-
-fn min(a: usize, b: usize) -> usize
-    ensures { result ≡ min a b }
-{
-    if a < b { a } else { b }
-}
 
 // The least number of leading bits that the call's pseudo key shares with one of the records'.
 pub fn least_shared(page: &[u8], call: u32) -> usize
@@ -29,14 +22,11 @@ pub fn least_shared(page: &[u8], call: u32) -> usize
     ensures { (result ≡ least_shared (page_of page.now).records call) × (result ≤ 32) }
 {
     let key = key::pseudo_key(call);
-    let n = page::count(page);
-    let mut least: usize = 32;
-    let mut i: usize = 0;
-    while i < n {
+    let mut least = 32;
+    for i in 0..page::count(page) {
         let r = page::rec_at(page, i);
         let bits = key::shared_bits(key::pseudo_key(r.call), key) as usize;
-        least = min(bits, least);
-        i += 1;
+        least = bits.min(least);
     }
     least
 }
@@ -46,8 +36,7 @@ pub fn splits(least: usize, depth: usize) -> usize
     requires { least ≤ 32 }
     ensures { result ≡ least + 1 - depth }
 {
-    let end = least + 1;
-    if depth <= end { end - depth } else { 0 }
+    (least + 1).saturating_sub(depth)
 }
 
 // The same of a page, for an insert of this call.
@@ -77,8 +66,7 @@ pub fn old_piece(call: u32, depth: usize, n: usize) -> Piece
 {
     let key = key::pseudo_key(call);
     let end = depth + n;
-    let mut d = depth;
-    while d < end {
+    for d in depth..end {
         if key::bit(key, d) {
             return Piece {
                 depth: d + 1,
@@ -86,7 +74,6 @@ pub fn old_piece(call: u32, depth: usize, n: usize) -> Piece
                 own: false,
             };
         }
-        d += 1;
     }
     Piece {
         depth: end,
@@ -95,7 +82,8 @@ pub fn old_piece(call: u32, depth: usize, n: usize) -> Piece
     }
 }
 
-// New page number i, from 1, of n splits: "a new page gets bit 1".
+// New page number i, from 1, of n splits: "a new page gets bit 1". (Not one function with `old_piece`, in which it may end: the definitions, `new_piece`
+// and `kept_piece`, are two as well.)
 pub fn new_piece(call: u32, depth: usize, n: usize, i: usize) -> Piece
     requires { (1 ≤ i) × (i ≤ n) × (depth + n ≤ 32) }
     ensures { result ≡ new_piece (n - i) (depth + (i - 1)) call }
@@ -117,14 +105,17 @@ fn write_piece(page: &mut [u8], q: Piece, r: Rec)
     requires { Sound page.old × Fits (room (length page.old)) (page_of page.old) q }
     ensures { page.new ≡ page_bytes (room (length page.old)) (cut (page_of page.old) r q) }
 {
-    let d = q.depth;
-    let p = q.pattern;
-    let m = page::keep(page, Test::HasIndex(d, p));
-    if q.own {
-        page::put_in(page, m, r);
-        page::close(page, d, m + 1, p);
+    let Piece {
+        depth,
+        pattern,
+        own,
+    } = q;
+    let kept = page::keep(page, |a| key::index(a.call, depth) == pattern);
+    if own {
+        page::put_in(page, kept, r);
+        page::close(page, depth, kept + 1, pattern);
     } else {
-        page::close(page, d, m, p);
+        page::close(page, depth, kept, pattern);
     }
 }
 
@@ -140,7 +131,8 @@ pub fn write_old(page: &mut [u8], n: usize, r: Rec)
     write_piece(page, old_piece(r.call, d, n), r);
 }
 
-// New page number i, from 1, of n splits, in a copy of the split page.
+// New page number i, from 1, of n splits, in a copy of the split page. (Not one function with `write_old`: the definitions tell the old page and the
+// new ones apart, and what the two share is `write_piece`.)
 pub fn write_new(page: &mut [u8], n: usize, i: usize, r: Rec)
     requires { Sound page.old
         × Splits (room (length page.old)) (page_of page.old) r

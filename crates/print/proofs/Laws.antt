@@ -1,18 +1,16 @@
 -- What a call of `run` tells: that the job ran, and its result stands in the buffer; or that it was refused, and why. And of a table that was blank, that it is blank again.
 use mathlib.Core.Path.{◌≡◌, refl, sym, ap, subst, ◌∙◌}
 use mathlib.Core.List.{List, ◌++◌}
-use mathlib.Core.Option.{Option, none, some}
+use Rattle.std.specs.Prelude.{Option, None, Some, Ok, Err}
 use Prim.Native.Nat.{ℕ, ◌≤◌}
 use native.Mathlib.Omega.{arith}
 use lib.ListN.{length, take, drop, replicate, length-append}
 use lib.Seq.{take_at, take_all}
-use Rattle.spec.specs.declared.Outcome.{Outcome}
-use Rattle.spec.specs.declared.Outcome.TheVariants.{Done, Refused}
 use Rattle.spec.specs.Bytes.{AreBytes}
 use Rattle.spec.specs.Decode.{job_of}
 use Rattle.spec.specs.Result.{result}
 use Rattle.spec.specs.Check.{Fault, job_fault, first_fault}
-use Rattle.spec.specs.Outcome.{result_bytes, outcome_by, outcome, after_call, buffer_by, buffer_after, rows_by, rows_after}
+use Rattle.spec.specs.Outcome.{Outcome, result_bytes, outcome_by, outcome, after_call, buffer_by, buffer_after, rows_by, rows_after}
 use Rattle.spec.specs.Report.{refused_line, printed_by, printed}
 use Rattle.laws.specs.Codec.Tools.{or_else_none}
 use Rattle.laws.specs.Codec.ResultBack.{ResultFits}
@@ -35,21 +33,21 @@ stands {s = s} {x = x} room w =
     record { count = omega (arith, w.stop); bytes = rw w.stop (w.bytes ∙ over_parts x s 0 (omega (arith, w.stop, w.near))) }
 
 -- the cases of an outcome
-ran_by : (o : Option Fault) (s : List ℕ) (n : ℕ) → Done n ≡ outcome_by o s → (o ≡ none) × (n ≡ length s)
+ran_by : (o : Option Fault) (s : List ℕ) (n : ℕ) → Ok n ≡ outcome_by o s → (o ≡ None) × (n ≡ length s)
 unfolding outcome_by
-ran_by none s n e = let z : n ≡ length s = cc in (refl, z)
-ran_by (some f) s n e = let z : ◌≡◌ {A = ℕ} 0 1 = cc in absurd (omega arith)
+ran_by None s n e = let z : n ≡ length s = cc in (refl, z)
+ran_by (Some f) s n e = absurd (cc)
 
-refused_by_lem : (o : Option Fault) (s : List ℕ) (n p : ℕ) → Refused n p ≡ outcome_by o s → o ≡ some (record { number = n; place = p })
+refused_by : (o : Option Fault) (s : List ℕ) (f : Fault) → Err f ≡ outcome_by o s → o ≡ Some f
 unfolding outcome_by
-refused_by_lem none s n p e = let z : ◌≡◌ {A = ℕ} 0 1 = cc in absurd (omega arith)
-refused_by_lem (some f) s n p e = let z : n ≡ f.number = cc in let q : p ≡ f.place = cc in rw (z, q)
+refused_by None s f e = absurd (cc)
+refused_by (Some g) s f e = let z : f ≡ g = cc in rw z
 
 -- A TABLE THAT WAS BLANK IS BLANK AGAIN, whether the job ran or was refused
 blank-again : (o : Option Fault) → after_call o full_table (replicate (length full_table) blank_row) ≡ full_table
 unfolding after_call
-blank-again none = refl
-blank-again (some f) = refl
+blank-again None = refl
+blank-again (Some f) = refl
 
 pub settled_here
     : {b s t : List ℕ} {y : List Row} {w u : List ℕ} {r : Outcome}
@@ -61,12 +59,12 @@ settled_here {b} {s} {t} {y} {w} {u} {r} call =
 
 module _ {b s t : List ℕ} {x y : List Row} {w u : List ℕ} {r : Outcome} (call : Settled b s t x y w u r) where
   -- A JOB THAT RAN: n bytes of result
-  module _ {n : ℕ} (ran : r ≡ Done n) where
-    cases : (first_fault (lent s x w) b ≡ none) × (n ≡ length (result_bytes b))
+  module _ {n : ℕ} (ran : r ≡ Ok n) where
+    cases : (first_fault (lent s x w) b ≡ None) × (n ≡ length (result_bytes b))
     unfolding outcome
     cases = ran_by (first_fault (lent s x w) b) (result_bytes b) n (sym ran ∙ call.answer)
 
-    accepted : job_fault b ≡ none
+    accepted : job_fault b ≡ None
     unfolding first_fault
     accepted = ((or_else_none _ _).0 cases.0).0
 
@@ -103,14 +101,14 @@ module _ {b s t : List ℕ} {x y : List Row} {w u : List ℕ} {r : Outcome} (cal
           (stands room wrote)
 
   -- A JOB THAT WAS REFUSED
-  module _ {number place : ℕ} (refused : r ≡ Refused number place) where
-    fault : first_fault (lent s x w) b ≡ some (record { number = number; place = place })
+  module _ {f : Fault} (refused : r ≡ Err f) where
+    fault : first_fault (lent s x w) b ≡ Some f
     unfolding outcome
-    fault = refused_by_lem (first_fault (lent s x w) b) (result_bytes b) number place (sym refused ∙ call.answer)
+    fault = refused_by (first_fault (lent s x w) b) (result_bytes b) f (sym refused ∙ call.answer)
 
     pub refused-printed
         : {k m : ℕ} {o p : List ℕ}
-        → Wrote k o 0 (refused_line (record { number = number; place = place })) p m
+        → Wrote k o 0 (refused_line f) p m
         → k ≤ length o
         → Stands (printed_by (first_fault (lent s x w) b) b) o p m
     unfolding printed_by

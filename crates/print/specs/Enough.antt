@@ -1,7 +1,6 @@
 -- What is lent by a caller that lends enough for every job: row 11 never holds, so what is printed is `printed`.
-use Rattle.std.specs.Prelude.{ℕ, ◌≤◌, ◌≡◌, refl, List}
+use Rattle.std.specs.Prelude.{ℕ, ◌≤◌, ◌≡◌, refl, List, Option, None, Some}
 use Rattle.std.proofs.Math.Path.{ap}
-use Rattle.std.proofs.Math.Option.{Option, none, some}
 use Rattle.std.proofs.Common.{arith}
 use Rattle.spec.specs.Basics.{or_else}
 use Rattle.spec.specs.Job.{Header}
@@ -21,7 +20,7 @@ unfolding result_size
 result-most h l = omega (arith, file-most h l, l.ops)
 
 module _ (b : List ℕ) (l : Lent) (result : most_result ≤ l.output) (rows : 256 ≤ l.rows) (work : work_size ≤ l.work) where
-  never : job_fault b ≡ none → small_output l b ≡ none
+  never : job_fault b ≡ None → small_output l b ≡ None
   unfolding small_output small_for
   never e =
       let k = (accepted_header b e).limits in
@@ -29,8 +28,8 @@ module _ (b : List ℕ) (l : Lent) (result : most_result ≤ l.output) (rows : 2
 
   by : (o : Option Fault) → job_fault b ≡ o → first_fault l b ≡ o
   unfolding first_fault or_else numbered
-  by none e = rw (e, never e)
-  by (some f) e = rw e
+  by None e = rw (e, never e)
+  by (Some f) e = rw e
 
   pub enough-printed : printed_by (first_fault l b) b ≡ printed b
   unfolding printed

@@ -63,14 +63,17 @@ module _ {h : Header} {b : List ℕ} (e : Heads h b) where
       let fits : n * k + n ≤ n * h.pages = omega (arith, mul-le-mul_left n l, mul-suc n k) in
       rw (add-sub_cancel_left (table_offset c) (n * h.pages), z) (part-part b (table_offset c) (n * h.pages) (n * k) n fits (omega (arith, e.size)))
 
+  pub op_part_in : (i : ℕ) → i < h.ops → take 10 (drop (10 * i) (ops_in c b)) ≡ get_or (op_parts c b) i []
+  unfolding ops_in turns_offset total op_place
+  op_part_in i l =
+      rw (add-sub_cancel_left (ops_offset c) (10 * h.ops))
+      (part-part b (ops_offset c) (10 * h.ops) (10 * i) 10 (omega arith) (omega (arith, e.size)) ∙ sym (op_part c b i l))
+
   pub op_in : (i : ℕ) → i < h.ops → op_at (ops_in c b) i ≡ get_or (job_of b).ops i no_op
-  unfolding op_at ops_in turns_offset total op_place job_of
+  unfolding op_at job_of
   op_in i l =
-      let there : take 10 (drop (10 * i) (take (10 * h.ops) (drop (ops_offset c) b))) ≡ get_or (op_parts c b) i [] =
-      part-part b (ops_offset c) (10 * h.ops) (10 * i) 10 (omega arith) (omega (arith, e.size)) ∙ sym (op_part c b i l)
-      in
       let same : op_of (get_or (op_parts c b) i []) ≡ get_or (map op_of (op_parts (header_of b) b)) i no_op = rw (← e.counts) (sym (ops_at (op_parts c b) i)) in
-      rw (add-sub_cancel_left (ops_offset c) (10 * h.ops)) (ap op_of there) ∙ same
+      ap op_of (op_part_in i l) ∙ same
 
   pub turn_in : (t : ℕ) → t < h.turns → turn_at (turns_in c b) t ≡ get_or (job_of b).turns t 0
   unfolding turn_at turns_in total turn_place

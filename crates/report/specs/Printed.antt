@@ -1,7 +1,6 @@
 -- The text that is read off a job and its result is what `chargelog` is to print for the job: for a caller that has run it.
-use Rattle.std.specs.Prelude.{◌≡◌, List, ℕ, length, take}
+use Rattle.std.specs.Prelude.{◌≡◌, List, ℕ, length, take, None}
 use Rattle.std.proofs.Common.{sym, ap, ◌∙◌}
-use Rattle.std.proofs.Math.Option.{none}
 use Rattle.spec.specs.Decode.{job_of}
 use Rattle.spec.specs.Result.{result}
 use Rattle.spec.specs.Check.{job_fault}
@@ -14,7 +13,7 @@ use Rattle.report.specs.Right.{report_same}
 -- its result's bytes stand at the front of `res`
 pub report-printed
     : (m : ℕ) (b res : List ℕ)
-    → job_fault b ≡ none
+    → job_fault b ≡ None
     → ResultFits (length (job_of b).ops) (result (job_of b))
     → take m res ≡ result_bytes b
     → report_of b res ≡ printed b

@@ -1,8 +1,7 @@
 -- The report that the code writes is the one that `spec` defines: for an accepted job, and a result that stands at the front of the bytes.
-use Rattle.std.specs.Prelude.{◌≡◌, refl, List, ◌++◌, ℕ, ◌+◌, ◌*◌, ◌≤◌, ◌<◌, length, take, drop}
+use Rattle.std.specs.Prelude.{◌≡◌, refl, List, ◌++◌, ℕ, ◌+◌, ◌*◌, ◌≤◌, ◌<◌, length, take, drop, Option, None, Some}
 use Rattle.std.proofs.Common.{sym, ◌∙◌, arith, length-append, take-append-drop}
 use Rattle.std.proofs.Math.Path.{ap}
-use Rattle.std.proofs.Math.Option.{Option, none, some}
 use Rattle.std.proofs.Math.Nat.{mul-le-mul_left}
 use Rattle.std.proofs.Math.Seq.{drop-drop}
 use Rattle.spec.specs.Bytes.{byte, long}
@@ -20,7 +19,7 @@ use Rattle.report.specs.Read.{report_of}
 use Rattle.report.specs.Sound.{OpsSound, LogSound, FileSound, ChargeSound, Sound}
 
 -- an accepted charge file: its pages in use lie within it, and have room for their records
-module _ (b : List ℕ) (accepted : job_fault b ≡ none) where
+module _ (b : List ℕ) (accepted : job_fault b ≡ None) where
   file-says : HeaderSays b
   file-says = accepted_header b accepted
 
@@ -58,7 +57,7 @@ module _ (b : List ℕ) (accepted : job_fault b ≡ none) where
         counts = record { each = room };
       }
 
-module _ (b : List ℕ) (r : Result) (accepted : job_fault b ≡ none) (fits : ResultFits (length (job_of b).ops) r) (post : List ℕ) where
+module _ (b : List ℕ) (r : Result) (accepted : job_fault b ≡ None) (fits : ResultFits (length (job_of b).ops) r) (post : List ℕ) where
   says : HeaderSays b
   says = accepted_header b accepted
 
@@ -97,8 +96,8 @@ module _ (b : List ℕ) (r : Result) (accepted : job_fault b ≡ none) (fits : R
       }
 
   charge_sound : (o : Option (List ℕ)) → r.file ≡ o → (long bytes 16 ≡ 0 → ⊥) → ChargeSound bytes
-  charge_sound none e n = absurd (n (unfiled _ r most fits post e))
-  charge_sound (some f) e n =
+  charge_sound None e n = absurd (n (unfiled _ r most fits post e))
+  charge_sound (Some f) e n =
       let k = filed _ r most fits post f e in
       record { ordered = k.ordered; within = k.within; file = rw k.part (file_sound f (fits.file f e)) }
 
@@ -110,7 +109,7 @@ module _ (b : List ℕ) (r : Result) (accepted : job_fault b ≡ none) (fits : R
   same = ap (report (job_of b)) (result_back _ r most fits post)
 
 -- THE REPORT IS RIGHT: of an accepted job b and a result r whose bytes stand at the front of `res`
-module _ (b res : List ℕ) (r : Result) (n : ℕ) (accepted : job_fault b ≡ none) (fits : ResultFits (length (job_of b).ops) r) (written : take n res ≡ encode_result r) where
+module _ (b res : List ℕ) (r : Result) (n : ℕ) (accepted : job_fault b ≡ None) (fits : ResultFits (length (job_of b).ops) r) (written : take n res ≡ encode_result r) where
   whole : res ≡ encode_result r ++ drop n res
   whole = sym (take-append-drop n res) ∙ ap (λ l. l ++ drop n res) written
 

@@ -1,17 +1,17 @@
 // The sections of the report, each line by line, from the bytes of the sections that it tells of.
-ghost use Rattle.std.specs.Prelude.{map, ◌+◌, ◌*◌, ◌≤◌, length};
-ghost use Rattle.std.proofs.Math.Option.{some};
+ghost use Rattle.std.specs.Prelude.{◌≡◌, map, option_map, IfSome, ◌+◌, ◌*◌, ◌/◌, ◌≤◌, length, Some};
 ghost use Rattle.spec.specs.Basics.{each};
-ghost use Rattle.spec.specs.Bytes.{parts};
+ghost use Rattle.spec.specs.Bytes.{long, parts};
 ghost use Rattle.spec.specs.Job.{op_size};
 ghost use Rattle.spec.specs.Decode.{op_of, page_of, job_of};
-ghost use Rattle.spec.specs.Result.{answer_size, line_size, answer_of, line_of, answers_in, log_in};
+ghost use Rattle.spec.specs.Result.{answer_size, line_size, answer_of, line_of, answers_in, log_in, file_in};
 ghost use Rattle.spec.specs.Report.{op_lines, at_line, page_lines, pages_part};
-ghost use Rattle.wire.specs.Wrote.{Wrote};
-ghost use Rattle.report.specs.Sound.{OpsSound, LogSound, FileSound, Counts};
+ghost use Rattle.text.specs.Added.{Added, Room};
+ghost use Rattle.report.specs.Sound.{OpsSound, LogSound, FileSound, ChargeSound, Counts};
 
 use lines::{at_line, op_line};
 use pageline::page_line;
+use text::Text;
 use wire::{u8_at, u16_at, u32_at};
 
 // Where a job's header has its counts and offsets: c, pages in use, offsets of page table and operations.
@@ -23,7 +23,7 @@ const TABLE: usize = 16;
 
 const OPS: usize = 20;
 
-// Where a result's header has its own: operations, lines of the log, offsets of answers and log.
+// Where a result's header has its own: operations, lines of the log, offsets of answers, log and charge file, the total.
 const ANSWER_COUNT: usize = 2;
 
 const LINE_COUNT: usize = 4;
@@ -32,81 +32,97 @@ const ANSWERS: usize = 8;
 
 const LOG: usize = 12;
 
-// The `op` lines of m operations with their answers.
-fn op_lines(out: &mut [u8], at: usize, ops: &[u8], answers: &[u8], m: usize) -> usize
-    requires { (at + 74 * m ≤ length out.old) × (10 * m ≤ length ops.now) × (8 * m ≤ length answers.now) × (m ≤ 256) }
-    ensures { Wrote (74 * m) out.old at (op_lines 0 (map op_of (parts m op_size ops.now)) (map answer_of (parts m answer_size answers.now))) out.new result }
+const FILE: usize = 16;
+
+const TOTAL: usize = 20;
+
+// The `op` lines of operations with their answers, one for each.
+fn op_lines(text: &mut Text<'_>, ops: &[u8], answers: &[u8])
+    requires room { Room (74 * (length answers.now / 8)) text.old }
+    requires answered { length ops.now / 10 ≡ length answers.now / 8 }
+    requires few { length answers.now / 8 ≤ 256 }
+    ensures { Added (74 * (length answers.now / 8)) (op_lines 0 (map op_of (parts (length ops.now / 10) op_size ops.now)) (map answer_of (parts (length answers.now / 8) answer_size answers.now))) text.old text.new }
 {
-    let mut end = at;
-    let mut i: usize = 0;
-    while i < m {
-        let p = 10 * i;
-        let q = 8 * i;
-        end = op_line(out, end, i as u32, &ops[p..p + 10], &answers[q..q + 8]);
-        i += 1;
+    for (i, (op, answer)) in ops
+        .chunks_exact(10)
+        .zip(answers.chunks_exact(8))
+        .enumerate()
+    {
+        op_line(text, i as u32, op, answer);
     }
-    end
 }
 
-// The `at` lines of n lines of the log.
-fn at_lines(out: &mut [u8], at: usize, log: &[u8], n: usize) -> usize
-    requires { (at + 28 * n ≤ length out.old) × (4 * n ≤ length log.now) }
-    ensures { Wrote (28 * n) out.old at (each at_line (map line_of (parts n line_size log.now))) out.new result }
+// The `at` lines of a log. (Not one function with the words of a page's records: what they share is a loop of one line,
+// over a writer with its own contract.)
+fn at_lines(text: &mut Text<'_>, log: &[u8])
+    requires { Room (28 * (length log.now / 4)) text.old }
+    ensures { Added (28 * (length log.now / 4)) (each at_line (map line_of (parts (length log.now / 4) line_size log.now))) text.old text.new }
 {
-    let mut end = at;
-    let mut i: usize = 0;
-    while i < n {
-        let p = 4 * i;
-        end = at_line(out, end, &log[p..p + 4]);
-        i += 1;
+    for line in log.chunks_exact(4) {
+        at_line(text, line);
     }
-    end
 }
 
-// The `page` lines of the first n pages of a table, each of `size` bytes. Pages count from 1.
-fn page_lines(out: &mut [u8], at: usize, table: &[u8], size: usize, n: usize) -> usize
-    requires { (at + 230 * n ≤ length out.old) × (size * n ≤ length table.now) × (size ≤ 68) × (n ≤ 256) × Counts table.now size n }
-    ensures { Wrote (230 * n) out.old at (page_lines 1 (map page_of (parts n size table.now))) out.new result }
+// The `page` lines of pages of `size` bytes each. Pages count from 1.
+fn page_lines(text: &mut Text<'_>, pages: &[u8], size: usize)
+    requires room { Room (230 * (length pages.now / size)) text.old }
+    requires size { (4 ≤ size) × (size ≤ 68) }
+    requires few { length pages.now / size ≤ 256 }
+    requires counts { Counts pages.now size (length pages.now / size) }
+    ensures { Added (230 * (length pages.now / size)) (page_lines 1 (map page_of (parts (length pages.now / size) size pages.now))) text.old text.new }
 {
-    let mut end = at;
-    let mut p: usize = 0;
-    let mut i: usize = 0;
-    while i < n {
-        end = page_line(out, end, i as u32 + 1, &table[p..p + size]);
-        p += size;
-        i += 1;
+    for (i, page) in pages.chunks_exact(size).enumerate() {
+        page_line(text, i as u32 + 1, page);
     }
-    end
 }
 
 // The `op` lines, where the headers say that operations and answers begin.
-pub fn answer_lines(out: &mut [u8], at: usize, job: &[u8], res: &[u8]) -> usize
-    requires { (at + 18944 ≤ length out.old) × OpsSound job.now res.now }
-    ensures { Wrote 18944 out.old at (op_lines 0 (job_of job.now).ops (answers_in res.now)) out.new result }
+pub fn answer_lines(text: &mut Text<'_>, job: &[u8], res: &[u8])
+    requires { Room 18944 text.old × OpsSound job.now res.now }
+    ensures { Added 18944 (op_lines 0 (job_of job.now).ops (answers_in res.now)) text.old text.new }
 {
     let m = u16_at(res, ANSWER_COUNT);
     let ops = u32_at(job, OPS) as usize;
     let answers = u32_at(res, ANSWERS) as usize;
-    op_lines(out, at, &job[ops..], &res[answers..], m)
+    op_lines(
+        text,
+        &job[ops..ops + 10 * m],
+        &res[answers..answers + 8 * m],
+    );
 }
 
 // The `at` lines, where the result's header says that the log begins.
-pub fn log_lines(out: &mut [u8], at: usize, res: &[u8]) -> usize
-    requires { (at + 7168 ≤ length out.old) × LogSound res.now }
-    ensures { Wrote 7168 out.old at (each at_line (log_in res.now)) out.new result }
+pub fn log_lines(text: &mut Text<'_>, res: &[u8])
+    requires { Room 7168 text.old × LogSound res.now }
+    ensures { Added 7168 (each at_line (log_in res.now)) text.old text.new }
 {
     let n = u16_at(res, LINE_COUNT);
     let log = u32_at(res, LOG) as usize;
-    at_lines(out, at, &res[log..], n)
+    at_lines(text, &res[log..log + 4 * n]);
 }
 
-// The `page` lines: "only with a charge file and for pages in use".
-pub fn file_lines(out: &mut [u8], at: usize, file: &[u8]) -> usize
-    requires { (at + 58880 ≤ length out.old) × FileSound file.now }
-    ensures { Wrote 58880 out.old at (pages_part (some file.now)) out.new result }
+// The `page` lines: "only with a charge file and for pages in use". (The size of a page is reckoned here, since a report is of bytes and knows no header.)
+pub fn file_lines(text: &mut Text<'_>, file: &[u8])
+    requires { Room 58880 text.old × FileSound file.now }
+    ensures { Added 58880 (pages_part (Some file.now)) text.old text.new }
 {
-    let c = u8_at(file, CAPACITY);
+    let size = 4 + 8 * u8_at(file, CAPACITY);
     let used = u16_at(file, IN_USE);
     let table = u32_at(file, TABLE) as usize;
-    page_lines(out, at, &file[table..], 4 + 8 * c, used)
+    page_lines(text, &file[table..table + size * used], size);
+}
+
+// The charge file of a result, from its offset to the total. A result without one has offset 0.
+pub fn charge_file(res: &[u8]) -> Option<&[u8]>
+    requires header { 24 ≤ length res.now }
+    requires sound { (long res.now 16 ≡ 0 → ⊥) → ChargeSound res.now }
+    ensures file { option_map (λ f. f.now) result ≡ file_in res.now }
+    ensures sound { IfSome result (λ f. FileSound f.now) }
+{
+    let file = u32_at(res, FILE) as usize;
+    if file == 0 {
+        return None;
+    }
+    let total = u32_at(res, TOTAL) as usize;
+    Some(&res[file..total])
 }

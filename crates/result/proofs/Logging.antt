@@ -1,6 +1,7 @@
 -- The log of the first i operations stands in the buffer.
 use mathlib.Core.Path.{◌≡◌, refl, sym, ap, ◌∙◌}
 use mathlib.Core.List.{List, [], ◌∷◌, ◌++◌}
+use Rattle.std.specs.Prelude.{Option, None, Some, SomeIff}
 use Prim.Native.Nat.{ℕ, suc, ◌+◌, ◌-◌, ◌*◌, ◌≤◌, ◌<◌}
 use native.Mathlib.Numerals.{add-one}
 use native.Mathlib.Omega.{arith}
@@ -97,36 +98,36 @@ put_line X s₀ s at k h e f sm room =
     let b : lines_in (over s₀ at (each line_bytes X)) at (length X) ≡ X = lines_back X s₀ at sm (omega arith) in
     rw (e, f, b) (put_at X s₀ at h (seat h.moment X (length X)) (seat_le h.moment X (length X)))
 
--- operation i, whose mark is v
-module _
-    {w : List ℕ} {m : ℕ} {s₀ : List ℕ} {at i : ℕ} {s : List ℕ} {k : ℕ}
-    (v : ℕ) (e : v ≡ word w (mark_place i)) (h : i < m) (l : Logging w m s₀ at i s k)
-  where
-    next : (rs : List Row) → length rs ≡ m → take (i + 1) rs ≡ take i rs ++ (get_or rs i gone ∷ [])
-    next rs c = rw add-one (take-suc rs i gone (omega arith))
+next : (rs : List Row) (i : ℕ) → i < length rs → take (i + 1) rs ≡ take i rs ++ (get_or rs i gone ∷ [])
+next rs i h = rw add-one (take-suc rs i gone h)
 
-    pub skip : v ≡ 0 → Logging w m s₀ at (i + 1) s k
+-- operation i, whose mark tells the moment o
+module _
+    {w : List ℕ} {m : ℕ} {s₀ : List ℕ} {at i : ℕ} {s : List ℕ} {k : ℕ} {o : Option ℕ}
+    (e : SomeIff o (1 ≤ word w (mark_place i)) (word w (mark_place i) - 1)) (h : i < m) (l : Logging w m s₀ at i s k)
+  where
+    pub skip : o ≡ None → Logging w m s₀ at (i + 1) s k
     skip z =
         record {
           within = omega arith;
           few = omega (arith, l.few);
           kept = l.kept;
-          bytes = λ rs n g. rw (next rs g.count, same rs n g) (l.bytes rs n g);
-          lines = λ rs n g. rw (next rs g.count, same rs n g) (l.lines rs n g);
+          bytes = λ rs n g. rw (next rs i (omega (arith, g.count)), same rs n g) (l.bytes rs n g);
+          lines = λ rs n g. rw (next rs i (omega (arith, g.count)), same rs n g) (l.lines rs n g);
         }
       where
         same : (rs : List Row) (n : ℕ) → Logged rs n w m → lines_from n 0 (take i rs ++ (get_or rs i gone ∷ [])) ≡ lines_from n 0 (take i rs)
-        same rs n g = log_same n (take i rs) (get_or rs i gone) (mark_none (get_or rs i gone) (omega (arith, g.marks.at i (omega (arith, g.count)))))
+        same rs n g = log_same n (take i rs) (get_or rs i gone) (mark_none (get_or rs i gone) (omega (arith, rw z at e, g.marks.at i (omega (arith, g.count)))))
 
     pub more
-        : {t : List ℕ}
-        → (v ≡ 0 → ⊥)
+        : {t : List ℕ} {u : ℕ}
+        → o ≡ Some u
         → m ≤ 256
         → at + line_size * m ≤ length s₀
-        → t ≡ with_line s at k (line (v - 1) i)
+        → t ≡ with_line s at k (line u i)
         → Logging w m s₀ at (i + 1) t (k + 1)
     unfolding with_line
-    more {t} z few room x =
+    more {t} {u} z few room x =
         record {
           within = omega arith;
           few = omega (arith, l.few);
@@ -134,16 +135,16 @@ module _
           bytes =
               λ rs n g.
               let fits = small n i rs g.turns (omega arith) (omega (arith, g.count)) in
-              rw (next rs g.count, one rs n g)
-              (x ∙ put_line (lines_from n 0 (take i rs)) s₀ s at k (line (v - 1) i) (l.bytes rs n g) (l.lines rs n g) fits (omega (arith, l.few)));
-          lines = λ rs n g. rw (next rs g.count, one rs n g, placed-length, add-one) (ap suc (l.lines rs n g));
+              rw (next rs i (omega (arith, g.count)), one rs n g)
+              (x ∙ put_line (lines_from n 0 (take i rs)) s₀ s at k (line u i) (l.bytes rs n g) (l.lines rs n g) fits (omega (arith, l.few)));
+          lines = λ rs n g. rw (next rs i (omega (arith, g.count)), one rs n g, placed-length, add-one) (ap suc (l.lines rs n g));
         }
       where
-        one : (rs : List Row) (n : ℕ) → Logged rs n w m → lines_from n 0 (take i rs ++ (get_or rs i gone ∷ [])) ≡ placed (lines_from n 0 (take i rs)) (line (v - 1) i)
+        one : (rs : List Row) (n : ℕ) → Logged rs n w m → lines_from n 0 (take i rs ++ (get_or rs i gone ∷ [])) ≡ placed (lines_from n 0 (take i rs)) (line u i)
         one rs n g =
             let r = get_or rs i gone in
-            let q : v ≡ mark_of r = e ∙ g.marks.at i (omega (arith, g.count)) in
-            let code = mark_code r (λ y. z (q ∙ y)) in
-            let moment : r.moment ≡ v - 1 = omega (arith, mark_moment r (λ y. z (q ∙ y))) in
+            let q : mark_of r ≡ u + 1 = omega (arith, rw z at e, g.marks.at i (omega (arith, g.count))) in
+            let code = mark_code r (λ y. omega arith) in
+            let moment : r.moment ≡ u = omega (arith, mark_moment r (λ y. omega arith)) in
             let count : length (take i rs) ≡ i = length-take-le i rs (omega (arith, g.count)) in
             rw (moment, count) at (log-more n (take i rs) r code (g.past i (omega (arith, g.count)) code))

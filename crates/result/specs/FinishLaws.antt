@@ -1,8 +1,7 @@
 -- The parts of a result, as they are written, are the result's bytes.
-use Rattle.std.specs.Prelude.{◌≡◌, List, ◌++◌, map, ℕ, ◌+◌, ◌*◌, ◌≤◌, take, drop}
+use Rattle.std.specs.Prelude.{◌≡◌, List, ◌++◌, map, ℕ, ◌+◌, ◌*◌, ◌≤◌, take, drop, Option, None, Some}
 use Rattle.std.proofs.Math.Path.{refl, sym}
 use Rattle.std.proofs.Common.{ap, ◌∙◌, append_assoc, arith, length-append, take-append-drop, eq-eqb, ne_eqb}
-use Rattle.std.proofs.Math.Option.{Option, none, some}
 use Rattle.std.proofs.Math.ListN.{length, length-map}
 use Rattle.spec.specs.Basics.{each}
 use Rattle.spec.specs.Bytes.{two, four}
@@ -139,7 +138,7 @@ module _ {s : State} {g c P m under : ℕ} {b b₁ w : List ℕ} {lines : ℕ} (
       → Finished (result_of s) b b₂ (log_end m lines)
   unfolding result_of file_left file_bytes offset_field
   without-file u h f =
-      whole none (if-false _ _ (ne_eqb _ _ (λ e. u (sym y.unended ∙ e)))) (sym (over_none b₁ (log_end m lines))) refl (omega arith) h f
+      whole None (if-false _ _ (ne_eqb _ _ (λ e. u (sym y.unended ∙ e)))) (sym (over_none b₁ (log_end m lines))) refl (omega arith) h f
 
   pub with_file
       : {b₂ b₃ : List ℕ} (n : ℕ)
@@ -150,4 +149,4 @@ module _ {s : State} {g c P m under : ℕ} {b b₁ w : List ℕ} {lines : ℕ} (
       → log_end m lines + n ≤ length b
       → Finished (result_of s) b b₃ (log_end m lines + n)
   unfolding result_of file_left file_bytes offset_field
-  with_file n u q e h f = whole (some (encode_file s.file)) (if-true _ _ (eq-eqb _ _ (y.unended ∙ u))) q refl (omega arith) h f
+  with_file n u q e h f = whole (Some (encode_file s.file)) (if-true _ _ (eq-eqb _ _ (y.unended ∙ u))) q refl (omega arith) h f

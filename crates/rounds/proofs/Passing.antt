@@ -3,13 +3,8 @@ use mathlib.Core.Path.{◌≡◌, refl, sym, subst}
 use mathlib.Core.List.{List}
 use Prim.Native.Nat.{ℕ, ◌+◌}
 use native.Mathlib.Numerals.{add-one}
-use lib.ListN.{length}
 use Rattle.header.specs.declared.Header.{Header}
 use Rattle.rounds.specs.OnTable.{Dealing, give_to, give_up_to}
-
--- table, output and memory are as long as they were
-abbrev pub Same : Dealing → Dealing → Type 0
-Same u v = (length u.rows ≡ length v.rows) × (length u.out ≡ length v.out) × (length u.work ≡ length v.work)
 
 pub none_given : (h : Header) (b : List ℕ) (u : Dealing) → give_up_to h b 0 u ≡ u
 unfolding give_up_to

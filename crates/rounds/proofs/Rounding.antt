@@ -1,15 +1,13 @@
 -- Rounds, one after another: the count of turns never falls, a round that deals no turn changes nothing, and so nothing changes from there on; and
 -- how long `rounds` goes on.
-use Prim.Native.Nat.{ℕ, zero, suc, ◌+◌, ◌-◌, ◌≤◌, ◌<◌}
+use Prim.Native.Nat.{ℕ, zero, suc, ◌+◌, ◌≤◌}
 use mathlib.Core.Path.{◌≡◌, refl, sym, ap, subst, ◌∙◌}
 use mathlib.Core.Logic.{by_cases}
 use mathlib.Core.List.{List}
-use mathlib.Core.Bool.{Bool, true, false, not}
 use native.Mathlib.Decide.{dec_le}
 use native.Mathlib.Nat.{le_trans}
 use native.Mathlib.Numerals.{add-one}
 use native.Mathlib.Omega.{arith}
-use lib.Dec.{T, ltb, ltb→lt, nltb→le}
 use Rattle.spec.specs.Deal.{max_dealt}
 use Rattle.laws.specs.Tools.{if_case}
 use Rattle.header.specs.declared.Header.{Header}
@@ -55,42 +53,38 @@ module _ (h : Header) (b : List ℕ) where
   stays k u e (suc n) l =
       by_cases (dec_le k n) (λ m. ap (round_on h b) (stays k u e n m) ∙ e) (λ m. let here : suc n ≡ k = omega arith in ap (λ (j : ℕ). rounds_on h b j u) here)
 
+  -- where there are no operations
+  pub nobody : (n : ℕ) (u : Dealing) → h.ops ≡ 0 → rounds_on h b n u ≡ u
+  unfolding rounds_on give_up_to
+  nobody zero u e = refl
+  nobody (suc n) u e = rw e (nobody n u e)
+
   -- ---- how long `rounds` goes on
   module _ (u : Dealing) where
-    -- after k rounds, with the word m whether it goes on: each has dealt a turn, or no later one does
-    abbrev pub Goes : ℕ → Bool → Type 0
-    Goes k m = (T m → k ≤ (rounds_on h b k u).turns) × (T (not m) → rounds_on h b k u ≡ rounds_on h b max_dealt u)
+    -- where dealing stands: after some rounds, each of which dealt a turn
+    pub record Upto (s : Dealing) : Type 0 where
+      pub rounds : ℕ
+      pub dealt : rounds ≤ s.turns
+      pub here : s ≡ rounds_on h b rounds u
 
-    pub goes_on : (k : ℕ) → k ≤ (rounds_on h b k u).turns → (rounds_on h b k u).turns ≤ max_dealt → Goes (k + 1) (ltb (rounds_on h b k u).turns (rounds_on h b (k + 1) u).turns)
-    goes_on k l most = (λ t. dealt (ltb→lt _ _ t), λ t. ended (nltb→le _ _ t))
-      where
-        dealt : (rounds_on h b k u).turns < (rounds_on h b (k + 1) u).turns → k + 1 ≤ (rounds_on h b (k + 1) u).turns
-        dealt m = omega arith
-
-        ended : (rounds_on h b (k + 1) u).turns ≤ (rounds_on h b k u).turns → rounds_on h b (k + 1) u ≡ rounds_on h b max_dealt u
-        ended m =
-            let still : round_on h b (rounds_on h b k u) ≡ rounds_on h b k u = up_still h.ops (rounds_on h b k u) (subst (λ (v : Dealing). v.turns ≤ (rounds_on h b k u).turns) (sym (one_more k u)) m) in
-            sym (one_more k u) ∙ still ∙ sym (stays k u still max_dealt (le_trans l most))
-
-    -- where dealing stands: after some rounds, with the word whether it goes on
-    abbrev pub Upto : Dealing → Bool → Type 0
-    Upto s m = (k : ℕ) × (Goes k m × (s ≡ rounds_on h b k u))
-
-    pub begun : Upto u true
-    begun = (0, ((λ t. omega arith, λ t. absurd t), sym (none_dealt u)))
+    pub begun : Upto u
+    begun = record { rounds = 0; dealt = omega arith; here = sym (none_dealt u) }
 
     -- a round more
-    pub passed
-        : ((n : ℕ) → (rounds_on h b n u).turns ≤ max_dealt)
-        → {s s' : Dealing}
-        → Upto s true
-        → s' ≡ round_on h b s
-        → Upto s' (ltb s.turns s'.turns)
-    passed most {s} {s'} (k, (g, e)) r =
-        let next : s' ≡ rounds_on h b (k + 1) u = r ∙ ap (round_on h b) e ∙ one_more k u in
-        (k + 1, (rw (e, next) (goes_on k (g.0 tt) (most k)), next))
+    module _ (most : (n : ℕ) → (rounds_on h b n u).turns ≤ max_dealt) {s s' : Dealing} (q : Upto s) (r : s' ≡ round_on h b s) where
+      next : s' ≡ rounds_on h b (q.rounds + 1) u
+      next = r ∙ ap (round_on h b) q.here ∙ one_more q.rounds u
 
--- how many turns there can be yet
-abbrev pub left : ℕ → Bool → ℕ
-left n true = max_dealt + 1 - n
-left n false = 0
+      pub grows : (s.turns ≤ s'.turns) × (s'.turns ≤ max_dealt)
+      grows = (rw r (up_grows h.ops s), rw next (most (q.rounds + 1)))
+
+      -- which dealt a turn
+      pub onward : (s'.turns ≡ s.turns → ⊥) → Upto s'
+      onward n = record { rounds = q.rounds + 1; dealt = omega (arith, q.dealt, grows.0); here = next }
+
+      -- or none, and then no later one does
+      pub ended : s'.turns ≡ s.turns → s' ≡ rounds_on h b max_dealt u
+      ended e =
+          let still : round_on h b s ≡ s = up_still h.ops s (omega (arith, ap (λ (v : Dealing). v.turns) r)) in
+          let there : round_on h b (rounds_on h b q.rounds u) ≡ rounds_on h b q.rounds u = rw q.here at still in
+          r ∙ still ∙ q.here ∙ sym (stays q.rounds u there max_dealt (omega (arith, q.dealt, grows)))

@@ -4,15 +4,15 @@ use mathlib.Core.List.{List}
 use Prim.Native.Nat.{ℕ, ◌+◌, ◌*◌, ◌/◌, ◌≤◌, ◌<◌}
 use native.Mathlib.Omega.{arith}
 use lib.ListN.{length, replicate}
-use Rattle.spec.specs.Job.{header_size}
+use Rattle.spec.specs.Job.{table_offset, ops_offset, file_length}
+use Rattle.header.specs.File.{file_size}
 use Rattle.spec.specs.Decode.{header_of, job_of}
 use Rattle.spec.specs.State.{State}
 use Rattle.spec.specs.Run.{run}
 use Rattle.spec.specs.Result.{result_of}
 use Rattle.spec.specs.Check.{work_size, result_size}
-use Rattle.laws.specs.Codec.Rows.{Limits, accepted_header}
 use Rattle.header.specs.declared.Header.{Header}
-use Rattle.header.specs.Counts.{counts_of, Heads}
+use Rattle.header.specs.Counts.{counts_of}
 use Rattle.memory.specs.Load.{loaded}
 use Rattle.turn.specs.declared.Row.{Row}
 use Rattle.turn.specs.Rows.{blank_row}
@@ -26,20 +26,16 @@ use Rattle.run.proofs.Known.{heads, ops_are}
 use Rattle.run.proofs.Begins.{begun}
 use Rattle.run.proofs.Turned.{turn-count, running, each_takes}
 use Rattle.run.proofs.Closing.{told_sizes, is_ready, closed}
-use Rattle.run.proofs.Ends.{faultless, accepts, enough}
+use Rattle.run.proofs.Ends.{accepts, enough}
 
 module _ {b s : List ℕ} {x : List Row} {w : List ℕ} (a : Accepted b s x w) where
-  -- `Header::read`
-  pub read_asks : header_size ≤ length b
-  read_asks = (accepted_header b (faultless a)).laid.header
-
   module _ (h : Header) (e : counts_of h ≡ header_of b) where
     abbrev o : Accepts h b
     o = accepts a h e
 
-    -- `load`
-    pub load_asks : Heads h b × (work_size ≤ length w)
-    load_asks = (heads o, (enough a h e).2)
+    -- `start`
+    pub start_asks : work_size ≤ length w
+    start_asks = (enough a h e).2
 
     abbrev pub work₁ : List ℕ
     work₁ = loaded w (directory_in (counts_of h) b) (table_in (counts_of h) b) h.capacity h.used
@@ -51,28 +47,18 @@ module _ {b s : List ℕ} {x : List Row} {w : List ℕ} (a : Accepted b s x w) w
     first_shown : Running (job_of b) 0 first
     first_shown = begun o w (enough a h e).2 (length x) (enough a h e).1
 
+    -- the same of a table and a memory that it left so
+    pub first_is : {z : List Row} {u : List ℕ} → z ≡ replicate (length x) blank_row → u ≡ work₁ → both z u ≡ first
+    first_is ez eu = λ i. both (ez i) (eu i)
+
     -- `take_turns`
-    pub turns_ask
-        : Heads h b
-        × ((k : ℕ) → k < length (turns_in (counts_of h) b) / 2 → Takes (shape_for h) (ops_in (counts_of h) b) (turns_in (counts_of h) b) k (all_turns h b k first))
-    turns_ask = (heads o, each_takes o first first_shown)
-
-    -- the same of a table and a memory that the first calls left so
-    pub first_is : (z : List Row) (u : List ℕ) (r : Row) → z ≡ replicate (length x) r → r ≡ blank_row → u ≡ work₁ → both z u ≡ first
-    first_is z u r ez er eu = λ i. both ((ez ∙ ap (replicate (length x)) er) i) (eu i)
-
     pub turns_may
         : (q : Both)
         → q ≡ first
-        → Heads h b
-        × ((k : ℕ) → k < length (turns_in (counts_of h) b) / 2 → Takes (shape_for h) (ops_in (counts_of h) b) (turns_in (counts_of h) b) k (all_turns h b k q))
-    turns_may q f =
-        subst
-        (λ (p : Both).
-        Heads h b
-        × ((k : ℕ) → k < length (turns_in (counts_of h) b) / 2 → Takes (shape_for h) (ops_in (counts_of h) b) (turns_in (counts_of h) b) k (all_turns h b k p)))
-        (sym f)
-        turns_ask
+        → (k : ℕ)
+        → k < length (turns_in (counts_of h) b) / 2
+        → Takes (shape_for h) (ops_in (counts_of h) b) (turns_in (counts_of h) b) k (all_turns h b k q)
+    turns_may q f k l = subst (λ (p : Both). Takes (shape_for h) (ops_in (counts_of h) b) (turns_in (counts_of h) b) k (all_turns h b k p)) (sym f) (each_takes o first first_shown k l)
 
     module _ (q : Both) (t : q ≡ all_turns h b (length (turns_in (counts_of h) b) / 2) first) where
       last_shown : Running (job_of b) h.turns q
@@ -85,26 +71,39 @@ module _ {b s : List ℕ} {x : List Row} {w : List ℕ} (a : Accepted b s x w) w
           (omega (arith, ops_are o, last_shown.room), (heads o).limits.ops, omega (arith, (enough a h e).0), last_shown.shown.picture.long)
 
       module _ (n : Told) (d : n ≡ tell_rows q.rows h.ops (told s q.work 0)) where
-        -- `close`
-        pub close_asks : Limits (counts_of h) × (result_size (counts_of h) ≤ length n.result) × (work_size ≤ length n.work)
-        close_asks =
+        -- `finish`
+        pub finish_asks
+            : (work_size ≤ length n.work)
+            × (h.depth ≤ 8)
+            × (h.capacity ≤ 8)
+            × (h.pages ≤ 256)
+            × (h.ops ≤ 256)
+            × (24 + 12 * h.ops + file_size h.depth h.capacity h.pages ≤ length n.result)
+        unfolding result_size file_length ops_offset table_offset
+        finish_asks =
             let z = told_sizes o last_shown s (enough a h e).0 d in
-            ((heads o).limits, omega (arith, z.0, (enough a h e).0), omega (arith, z.1, last_shown.shown.picture.long))
+            let q = (heads o).limits in (
+              omega (arith, z.1, last_shown.shown.picture.long),
+              q.depth,
+              q.capacity.1,
+              q.pages.1,
+              q.ops,
+              omega (arith, z.0, (enough a h e).0),
+            )
 
         -- all of it; y, t and u are the table, the result and the memory in the end
         pub all_ran
             : {y : List Row} {f u : List ℕ} {v : ℕ}
             → length q.rows ≡ length x
             → length n.work ≡ length w
-            → y ≡ replicate (length q.rows) blank_row
             → ((z : State) → Ready z h.depth h.capacity h.pages h.ops n.under n.result n.work → Finished (result_of z) n.result f v)
-            × (u ≡ replicate (length n.work) 0)
+            → (y ≡ replicate (length q.rows) blank_row) × (u ≡ replicate (length n.work) 0)
             → Ran b s f x y w u v
-        all_ran lx lw ey c =
-            let r = closed o last_shown s (enough a h e).0 d (c.0 (run (job_of b)) (is_ready o last_shown s (enough a h e).0 d)) in
+        all_ran lx lw c g =
+            let r = closed o last_shown s (enough a h e).0 d (c (run (job_of b)) (is_ready o last_shown s (enough a h e).0 d)) in
             record {
               total = r.0;
               result = r.2;
-              rows = ey ∙ ap (λ (k : ℕ). replicate k blank_row) lx;
-              work = c.1 ∙ ap (λ (k : ℕ). replicate {A = ℕ} k 0) lw;
+              rows = g.0 ∙ ap (λ (k : ℕ). replicate k blank_row) lx;
+              work = g.1 ∙ ap (λ (k : ℕ). replicate {A = ℕ} k 0) lw;
             }

@@ -1,21 +1,15 @@
 -- What a call comes to: refused, with nothing written, or run.
 use mathlib.Core.Path.{◌≡◌, refl, sym, ap, ◌∙◌}
-use mathlib.Core.Bool.{Bool, true, false, not, true≢false}
 use mathlib.Core.List.{List}
-use mathlib.Core.Option.{Option, none, some}
+use Rattle.std.specs.Prelude.{Option, None, Some, Ok, Err}
+use Rattle.std.proofs.lemmas.Option.{none-some}
 use Prim.Native.Nat.{ℕ, ◌≤◌}
-use native.Mathlib.Omega.{arith}
 use lib.ListN.{length, drop}
-use lib.Dec as dec
-use Rattle.spec.specs.declared.Spot.TheVariants.{At, Nowhere}
 use Rattle.spec.specs.declared.Stage.TheVariants.{NotBegun}
-use Rattle.spec.specs.declared.Checked.TheVariants.{Accepted as AcceptedBy, Refused as RefusedBy}
-use Rattle.spec.specs.declared.Outcome.TheVariants.{Done}
 use Rattle.spec.specs.Basics.{if, or_else}
 use Rattle.spec.specs.Decode.{header_of, job_of}
 use Rattle.spec.specs.Result.{Result, result, read_result}
 use Rattle.spec.specs.Check.{Lent, Fault, work_size, result_size, small_for, small_output, numbered, job_fault, first_fault}
-use Rattle.spec.specs.Cases.{spot_of, checked_of}
 use Rattle.spec.specs.Outcome.{result_bytes, outcome_by, outcome, after_call, buffer_by, buffer_after, rows_by, rows_after, work_by, work_after}
 use Rattle.laws.specs.Codec.Tools.{failed, among_none, among_end}
 use Rattle.laws.specs.Codec.Sizes.{bytes_total}
@@ -29,7 +23,6 @@ use Rattle.header.specs.Counts.{counts_of}
 use Rattle.turn.specs.declared.Row.{Row}
 use Rattle.turn.specs.Rows.{blank_row, stage_in}
 use Rattle.simulation.specs.RowBack.{blank-row}
-use Rattle.run.specs.Answer.{is_accepted, refused_by}
 use Rattle.run.specs.Table.{Accepts}
 use Rattle.run.specs.Call.{lent, Accepted, Ran, Written, Settled}
 
@@ -40,66 +33,38 @@ blank-stage = refl
 
 -- ---- what the rows of the refusal table tell
 
--- row 11, by its place
-pub at_place : (o : Option ℕ) (p : ℕ) → At p ≡ spot_of o → RefusedBy 11 p ≡ checked_of (numbered 11 o)
-unfolding spot_of numbered checked_of
-at_place none p f = let z : ◌≡◌ {A = ℕ} 0 1 = cc in absurd (omega arith)
-at_place (some q) p f = let z : p ≡ q = cc in rw z
-
-pub nowhere : (o : Option ℕ) → Nowhere ≡ spot_of o → AcceptedBy ≡ checked_of (numbered 11 o)
-unfolding spot_of numbered checked_of
-nowhere none f = refl
-nowhere (some q) f = let z : ◌≡◌ {A = ℕ} 0 1 = cc in absurd (omega arith)
-
 module _ (l : Lent) (b : List ℕ) where
   -- a fault of the job's own bytes comes first
-  pub by_job : (n p : ℕ) → job_fault b ≡ some (record { number = n; place = p }) → RefusedBy n p ≡ checked_of (first_fault l b)
-  unfolding first_fault or_else checked_of
-  by_job n p e = rw e
-
-  pub by_lent : (p : ℕ) → job_fault b ≡ none → At p ≡ spot_of (small_output l b) → RefusedBy 11 p ≡ checked_of (first_fault l b)
+  pub by_job : (f : Fault) → job_fault b ≡ Some f → Some f ≡ first_fault l b
   unfolding first_fault or_else
-  by_lent p e f = rw e (at_place (small_output l b) p f)
+  by_job f e = rw e
 
-  pub by_none : job_fault b ≡ none → Nowhere ≡ spot_of (small_output l b) → AcceptedBy ≡ checked_of (first_fault l b)
+  -- then what is lent is looked at
+  pub by_lent : (o : Option Fault) (s : Option ℕ) → job_fault b ≡ None → s ≡ small_output l b → numbered 11 s ≡ o → o ≡ first_fault l b
   unfolding first_fault or_else
-  by_none e f = rw e (nowhere (small_output l b) f)
+  by_lent o s e f h = rw (e, ← f) (sym h)
 
-pub some-none : {f : Fault} → some f ≡ none → ⊥
-some-none e = let z : ◌≡◌ {A = ℕ} 0 1 = cc in omega arith
-
--- what a branch that was taken says of its test
-pub is_true : (y : Bool) → dec.T y → y ≡ true
-is_true true h = refl
-is_true false h = absurd h
-
-pub is_false : (y : Bool) → dec.T (not y) → y ≡ false
-is_false true h = absurd h
-is_false false h = refl
-
-pub accepted-none : (f : Option Fault) → is_accepted (checked_of f) ≡ true → f ≡ none
-unfolding is_accepted checked_of
-accepted-none none e = refl
-accepted-none (some f) e = absurd (true≢false (sym e))
+pub some-none : {f : Fault} → Some f ≡ None → ⊥
+some-none e = none-some _ (sym e)
 
 -- ---- a job that meets no row
 
 -- row 11 does not hold: what is lent is enough
-enough_for : (size : ℕ) (l : Lent) (b : List ℕ) → small_for size l b ≡ none → (size ≤ l.output) × ((header_of b).ops ≤ l.rows) × (work_size ≤ l.work)
+enough_for : (size : ℕ) (l : Lent) (b : List ℕ) → small_for size l b ≡ None → (size ≤ l.output) × ((header_of b).ops ≤ l.rows) × (work_size ≤ l.work)
 unfolding small_for
 enough_for size l b e = let z = simp (failed, among_none, among_end) at e in (z.0, z.1.0, z.1.1.0)
 
-none_of : (j : Option Fault) (o : Option ℕ) → or_else j (numbered 11 o) ≡ none → (j ≡ none) × (o ≡ none)
+none_of : (j : Option Fault) (o : Option ℕ) → or_else j (numbered 11 o) ≡ None → (j ≡ None) × (o ≡ None)
 unfolding or_else numbered
-none_of none none e = (refl, refl)
-none_of none (some q) e = absurd (some-none e)
-none_of (some f) o e = absurd (some-none e)
+none_of None None e = (refl, refl)
+none_of None (Some q) e = absurd (some-none e)
+none_of (Some f) o e = absurd (some-none e)
 
 module _ {b s : List ℕ} {x : List Row} {w : List ℕ} (a : Accepted b s x w) where
-  neither : (job_fault b ≡ none) × (small_output (lent s x w) b ≡ none)
+  neither : (job_fault b ≡ None) × (small_output (lent s x w) b ≡ None)
   neither = none_of (job_fault b) (small_output (lent s x w) b) (unfold first_fault in a.faultless)
 
-  pub faultless : job_fault b ≡ none
+  pub faultless : job_fault b ≡ None
   faultless = neither.0
 
   pub accepts : (h : Header) → counts_of h ≡ header_of b → Accepts h b
@@ -109,19 +74,19 @@ module _ {b s : List ℕ} {x : List Row} {w : List ℕ} (a : Accepted b s x w) w
   enough h c = let z = enough_for (result_size (header_of b)) (lent s x w) b (unfold small_output in neither.1) in (rw c z.0, rw (← c) at z.1, z.2)
 
   -- demand 3 of what is written, its pages and turns used, and the rounds that finish the job
-  written : {t : List ℕ} {y : List Row} {u : List ℕ} {v : ℕ} → Ran b s t x y w u v → Written b t (Done v)
+  written : {t : List ℕ} {y : List Row} {u : List ℕ} {v : ℕ} → Ran b s t x y w u v → Written b t (Ok v)
   written {t} {v = v} r =
       let back : read_result t ≡ result (job_of b) = rw r.result (reads b a.bytes faultless (drop (length (result_bytes b)) s)) in
       record {
         reads = back;
-        total = ap Done (r.total ∙ bytes_total b ∙ sym (ap (λ (z : Result). z.total) back));
+        total = ap Ok (r.total ∙ bytes_total b ∙ sym (ap (λ (z : Result). z.total) back));
         explained = rw r.result (demand3 b (drop (length (result_bytes b)) s) a.bytes faultless);
         told = rw r.result (pages_behind b (drop (length (result_bytes b)) s) a.bytes faultless);
         within = rw r.result (at_most b (drop (length (result_bytes b)) s) a.bytes faultless);
         done = rw r.result (everyone b (drop (length (result_bytes b)) s) a.bytes faultless);
       }
 
-  pub ran : {t : List ℕ} {y : List Row} {u : List ℕ} {v : ℕ} → Ran b s t x y w u v → Settled b s t x y w u (Done v)
+  pub ran : {t : List ℕ} {y : List Row} {u : List ℕ} {v : ℕ} → Ran b s t x y w u v → Settled b s t x y w u (Ok v)
   unfolding outcome outcome_by buffer_by buffer_after rows_by rows_after work_by work_after after_call
   ran r =
       let e = a.faultless in
@@ -136,18 +101,10 @@ module _ {b s : List ℕ} {x : List Row} {w : List ℕ} (a : Accepted b s x w) w
 
 -- ---- a job that is refused: nothing lent is written
 
-refused_by_lem
-    : (b s : List ℕ) (x : List Row) (w : List ℕ) (f : Option Fault)
-    → first_fault (lent s x w) b ≡ f
-    → is_accepted (checked_of f) ≡ false
-    → Settled b s s x x w w (refused_by (checked_of f))
-unfolding is_accepted refused_by checked_of outcome outcome_by buffer_by buffer_after rows_by rows_after work_by work_after after_call
-refused_by_lem b s x w none q e = absurd (true≢false e)
-refused_by_lem b s x w (some f) q e =
-    record { answer = rw q; result = rw q; rows = rw q; work = rw q; fixed = (sym blank-row, blank-stage); written = λ z. absurd (some-none (sym q ∙ z)) }
-
 pub refused
-    : (b s : List ℕ) (x : List Row) (w : List ℕ)
-    → is_accepted (checked_of (first_fault (lent s x w) b)) ≡ false
-    → Settled b s s x x w w (refused_by (checked_of (first_fault (lent s x w) b)))
-refused b s x w e = refused_by_lem b s x w (first_fault (lent s x w) b) refl e
+    : (b s : List ℕ) (x : List Row) (w : List ℕ) (f : Fault)
+    → first_fault (lent s x w) b ≡ Some f
+    → Settled b s s x x w w (Err f)
+unfolding outcome outcome_by buffer_by buffer_after rows_by rows_after work_by work_after after_call
+refused b s x w f e =
+    record { answer = rw e; result = rw e; rows = rw e; work = rw e; fixed = (sym blank-row, blank-stage); written = λ z. absurd (some-none (sym e ∙ z)) }

@@ -1,8 +1,5 @@
 -- What a call of `run` comes to.
-use Rattle.std.specs.Prelude.{◌≡◌, List, ◌++◌, ℕ, length, drop, replicate}
-use Rattle.std.proofs.Math.Option.{none}
-use Rattle.spec.specs.declared.Outcome.{Outcome}
-use Rattle.spec.specs.declared.Outcome.TheVariants.{Done}
+use Rattle.std.specs.Prelude.{◌≡◌, List, ◌++◌, ℕ, length, drop, replicate, None, Ok}
 use Rattle.spec.specs.declared.Stage.TheVariants.{NotBegun}
 use Rattle.spec.specs.Decode.{job_of}
 use Rattle.spec.specs.State.{blank}
@@ -12,18 +9,22 @@ use Rattle.spec.specs.Check.{Lent, first_fault}
 use Rattle.spec.specs.Claims.{Explained, PagesTold}
 use Rattle.spec.specs.MostTurns.{TurnsWithin}
 use Rattle.spec.specs.Rounds.{GetsDone}
-use Rattle.spec.specs.Outcome.{result_bytes, outcome, buffer_after, rows_after, work_after}
+use Rattle.spec.specs.Outcome.{Outcome, result_bytes, outcome, buffer_after, rows_after, work_after}
 use Rattle.turn.specs.declared.Row.{Row}
 use Rattle.turn.specs.Rows.{row_image, blank_row, stage_in}
+use Rattle.run.specs.declared.Lent.{Lent as Lengths}
 
--- the lengths of what is lent
+-- the lengths of what is lent, as the code has them; and of these buffers and this table
+abbrev pub lengths : Lengths → Lent
+lengths l = record { output = l.output; rows = l.rows; work = l.work }
+
 abbrev pub lent : List ℕ → List Row → List ℕ → Lent
 lent s x w = record { output = length s; rows = length x; work = length w }
 
 -- the bytes b are a job that meets no row of the refusal table, with s, x and w lent
 pub record Accepted (b s : List ℕ) (x : List Row) (w : List ℕ) : Type 0 where
   pub bytes : AreBytes b
-  pub faultless : first_fault (lent s x w) b ≡ none
+  pub faultless : first_fault (lent s x w) b ≡ None
 
 -- the accepted job b is run: its result stands first in the result buffer, which was s, and has v bytes; table and memory are cleared
 pub record Ran (b s t : List ℕ) (x y : List Row) (w u : List ℕ) (v : ℕ) : Type 0 where
@@ -38,7 +39,7 @@ pub record Written (b t : List ℕ) (r : Outcome) : Type 0 where
   -- what is read from the buffer is the job's result: each number fits its field
   pub reads : read_result t ≡ result (job_of b)
   -- the total in its header is the length that is told
-  pub total : r ≡ Done (read_result t).total
+  pub total : r ≡ Ok (read_result t).total
   -- its log explains every answer
   pub explained : Explained (job_of b) (read_result t)
   -- and what is claimed of the pages told with its answers
@@ -58,4 +59,4 @@ pub record Settled (b s t : List ℕ) (x y : List Row) (w u : List ℕ) (r : Out
   pub work : u ≡ work_after (lent s x w) b w
   -- the rows' fixed value "stands for an operation not begun": it is that row in numbers, and its numbers say so
   pub fixed : (blank_row ≡ row_image blank) × (stage_in blank_row ≡ NotBegun)
-  pub written : first_fault (lent s x w) b ≡ none → Written b t r
+  pub written : first_fault (lent s x w) b ≡ None → Written b t r

@@ -1,6 +1,5 @@
 -- What a table and a memory show of a run.
-use Rattle.std.specs.Prelude.{◌≡◌, List, ℕ, ◌≤◌, ◌<◌, length, get_or}
-use Rattle.std.proofs.Math.Option.{none}
+use Rattle.std.specs.Prelude.{◌≡◌, List, ℕ, ◌≤◌, ◌<◌, length, get_or, None}
 use Rattle.spec.specs.Bytes.{AreBytes}
 use Rattle.spec.specs.Job.{Job}
 use Rattle.spec.specs.Decode.{header_of}
@@ -25,7 +24,7 @@ all_turns h b k s = run_turns (shape_for h) (ops_in (counts_of h) b) (turns_in (
 -- h is the header of the bytes b, which are an accepted job
 pub record Accepts (h : Header) (b : List ℕ) : Type 0 where
   pub bytes : AreBytes b
-  pub accepted : job_fault b ≡ none
+  pub accepted : job_fault b ≡ None
   pub counts : counts_of h ≡ header_of b
 
 -- The table and the memory show the job j after its first k turns

@@ -2,27 +2,22 @@
 // the lent working memory are cleared.
 #![tactic(auto)]
 
-ghost use Rattle.std.specs.Prelude.{◌≡◌, List, ℕ, ◌/◌, ◌≤◌, ◌<◌, length, replicate};
-ghost use Rattle.spec.specs.Bytes.{AreBytes};
+ghost use Rattle.std.specs.Prelude.{◌≡◌, List, ℕ, ◌/◌, ◌≤◌, ◌<◌, length, replicate, IfOk};
 ghost use Rattle.spec.specs.Decode.{header_of};
-ghost use Rattle.spec.specs.State.{State};
-ghost use Rattle.spec.specs.Result.{result_of};
-ghost use Rattle.spec.specs.Check.{work_size, result_size, small_for, small_output, first_fault};
-ghost use Rattle.spec.specs.Cases.{spot_of, checked_of};
-ghost use Rattle.laws.specs.Codec.Rows.{Limits};
-ghost use Rattle.header.specs.Counts.{counts_of, Heads};
+ghost use Rattle.spec.specs.Check.{work_size, small_for, small_output, first_fault};
+ghost use Rattle.spec.specs.Cases.{told, fault_in};
+ghost use Rattle.header.specs.Counts.{counts_of};
 ghost use Rattle.memory.specs.Load.{loaded};
+ghost use Rattle.turn.specs.Rows.{blank_row};
 ghost use Rattle.reader.specs.Parts.{directory_in, table_in, ops_in, turns_in};
-ghost use Rattle.result.specs.Finish.{Ready, Finished};
 ghost use Rattle.table.specs.Turns.{both, Takes};
-ghost use Rattle.run.specs.Answer.{is_accepted, refused_by, done_for};
 ghost use Rattle.run.specs.Table.{shape_for, all_turns};
-ghost use Rattle.run.specs.Call.{Accepted, Ran, Settled};
+ghost use Rattle.run.specs.Call.{lengths, lent, Accepted, Ran, Settled};
 
 use header::Header;
 use memory::Shape;
 use reader::Reader;
-use spec::{Checked, Outcome, Spot};
+use spec::{Reason, Refusal};
 use turn::Row;
 
 // "other lent working memory under 24,576 bytes"
@@ -30,68 +25,66 @@ const WORK_SIZE: usize = 24576;
 
 // ---- the check
 
+// The lengths of what is lent: bytes of output, rows, and bytes of working memory.
+#[derive(Clone, Copy)]
+pub struct Lent {
+    pub output: usize,
+    pub rows: usize,
+    pub work: usize,
+}
+
+impl Lent {
+    // of these buffers and this table
+    pub fn of(out: &[u8], rows: &[Row], work: &[u8]) -> Lent
+        ensures { lengths result ≡ lent out.now rows.now work.now }
+    {
+        Lent {
+            output: out.len(),
+            rows: rows.len(),
+            work: work.len(),
+        }
+    }
+}
+
 // 11, where an output buffer of `size` bytes is asked for (place 0); "lent table under m rows (place 1); other lent working memory under .. (place
 // 2)". Lengths only.
-pub fn small_for(h: Header, size: usize, output: usize, rows: usize, work: usize) -> Spot
-    ensures { (b : List ℕ) → counts_of h ≡ header_of b → result ≡ spot_of (small_for size (record { output = output; rows = rows; work = work }) b) }
+pub fn small_for(h: Header, size: usize, lent: Lent) -> Option<usize>
+    ensures { (b : List ℕ) → counts_of h ≡ header_of b → result ≡ small_for size (lengths lent) b }
 {
-    if output < size {
-        return Spot::At(0);
+    if lent.output < size {
+        return Some(0);
     }
-    if rows < h.ops {
-        return Spot::At(1);
+    if lent.rows < h.ops {
+        return Some(1);
     }
-    if work < WORK_SIZE {
-        return Spot::At(2);
+    if lent.work < WORK_SIZE {
+        return Some(2);
     }
-    Spot::Nowhere
+    None
 }
 
 // 11 output: "result buffer under 24 + 12m + the charge file's length (place 0)"
-fn small_output(h: Header, res: usize, rows: usize, work: usize) -> Spot
-    requires { Limits (counts_of h) }
-    ensures { (b : List ℕ) → counts_of h ≡ header_of b → result ≡ spot_of (small_output (record { output = res; rows = rows; work = work }) b) }
+fn small_output(reader: Reader, lent: Lent) -> Option<usize>
+    ensures { result ≡ small_output (lengths lent) reader.entry.job.now }
 {
+    let h = reader.header;
     let size = 24 + 12 * h.ops + h.ops_offset();
-    small_for(h, size, res, rows, work)
+    small_for(h, size, lent)
 }
 
-// "11 comes last": every row of the refusal table.
-fn check_all(job: &[u8], res: usize, rows: usize, work: usize) -> Checked
-    ensures { (result ≡ checked_of (first_fault (record { output = res; rows = rows; work = work }) job.now)) × AreBytes job.now }
+// "11 comes last": every row of the refusal table. A job that meets none comes back as its reader.
+fn check_all(job: &[u8], lent: Lent) -> Result<Reader<'_>, Refusal>
+    ensures fault { fault_in result ≡ first_fault (lengths lent) job.now }
+    ensures read { IfOk result (λ r. r.job ≡ job.entry) }
 {
-    let c = job::check(job);
-    if let Checked::Refused(number, place) = c {
-        return Checked::Refused(number, place);
-    }
-    let s = small_output(Header::read(job), res, rows, work);
-    if let Spot::At(place) = s {
-        return Checked::Refused(11, place);
-    }
-    Checked::Accepted
-}
-
-pub fn is_accepted(c: Checked) -> bool
-    ensures { result ≡ is_accepted c }
-{
-    match c {
-        Checked::Accepted => true,
-        Checked::Refused(_, _) => false,
-    }
-}
-
-// "A refusal gives the number and a place". (No accepted job comes here.)
-pub fn refused(c: Checked) -> Outcome
-    ensures { result ≡ refused_by c }
-{
-    match c {
-        Checked::Accepted => Outcome::Refused(0, 0),
-        Checked::Refused(number, place) => Outcome::Refused(number, place),
-    }
+    let reader = job::check(job)?;
+    Reason::Output.refuses(small_output(reader, lent))?;
+    Ok(reader)
 }
 
 // ---- the run
 
+// (Neither type is of this crate, so this is no `From`.)
 pub fn shape_of(h: Header) -> Shape
     ensures { result ≡ shape_for h }
 {
@@ -102,76 +95,62 @@ pub fn shape_of(h: Header) -> Shape
     }
 }
 
-// "The turn list starts from the file as it came in, no page locked"
-pub fn load(job: &[u8], h: Header, work: &mut [u8])
-    requires { Heads h job.now × (work_size ≤ length work.old) }
-    ensures { work.new ≡ loaded work.old (directory_in (counts_of h) job.now) (table_in (counts_of h) job.now) h.capacity h.used }
+// What turns begin with: "The turn list starts from the file as it came in, no page locked", and every row stands "for an operation not begun".
+pub fn start(reader: Reader, rows: &mut [Row], work: &mut [u8])
+    requires { work_size ≤ length work.old }
+    ensures rows { rows.new ≡ replicate (length rows.old) blank_row }
+    ensures work { work.new ≡ loaded work.old (directory_in (counts_of reader.entry.header) reader.entry.job.now) (table_in (counts_of reader.entry.header) reader.entry.job.now) reader.entry.header.capacity reader.entry.header.used }
 {
-    let reader = Reader::new(job, h);
     memory::load_file(
         work,
         reader.directory(),
         reader.page_table(),
-        h.capacity,
-        h.used,
+        reader.header.capacity,
+        reader.header.used,
     );
+    table::fill(rows, Row::blank());
+}
+
+// What they leave: "every row of the lent table has one fixed value", and "lent working memory is zero".
+pub fn clear(rows: &mut [Row], work: &mut [u8])
+    ensures { (rows.new ≡ replicate (length rows.old) blank_row) × (work.new ≡ replicate (length work.old) 0) }
+{
+    table::fill(rows, Row::blank());
+    memory::clear_all(work);
 }
 
 // Every turn of the job.
-fn take_turns(job: &[u8], h: Header, rows: &mut [Row], work: &mut [u8])
-    requires { Heads h job.now × ((k : ℕ) → k < length (turns_in (counts_of h) job.now) / 2 → Takes (shape_for h) (ops_in (counts_of h) job.now) (turns_in (counts_of h) job.now) k (all_turns h job.now k (both rows.old work.old))) }
-    ensures { both rows.new work.new ≡ all_turns h job.now (length (turns_in (counts_of h) job.now) / 2) (both rows.old work.old) }
+fn take_turns(reader: Reader, rows: &mut [Row], work: &mut [u8])
+    requires { (k : ℕ) → k < length (turns_in (counts_of reader.header) reader.job.now) / 2 → Takes (shape_for reader.header) (ops_in (counts_of reader.header) reader.job.now) (turns_in (counts_of reader.header) reader.job.now) k (all_turns reader.header reader.job.now k (both rows.old work.old)) }
+    ensures { both rows.new work.new ≡ all_turns reader.entry.header reader.entry.job.now (length (turns_in (counts_of reader.entry.header) reader.entry.job.now) / 2) (both rows.old work.old) }
 {
-    let reader = Reader::new(job, h);
     table::turns(
         rows,
         reader.operations(),
         reader.turn_list(),
-        shape_of(h),
+        shape_of(reader.header),
         work,
     );
 }
 
-// What is left when all operations are told: the rest of the result, whose length it is; and "lent working memory is zero".
-fn close(h: Header, under: usize, res: &mut [u8], work: &mut [u8]) -> usize
-    requires { Limits (counts_of h) × (result_size (counts_of h) ≤ length res.old) × (work_size ≤ length work.old) }
-    ensures { ((s : State) → Ready s h.depth h.capacity h.pages h.ops under res.old work.old → Finished (result_of s) res.old res.new result) × (work.new ≡ replicate (length work.old) 0) }
+// "A job that meets no row below is run": from the file as it came in to the result; then what was lent is cleared.
+fn run_accepted(reader: Reader, res: &mut [u8], rows: &mut [Row], work: &mut [u8]) -> usize
+    requires { Accepted reader.job.now res.old rows.old work.old }
+    ensures { Ran reader.entry.job.now res.old res.new rows.old rows.new work.old work.new result }
 {
-    let total = result::finish(res, work, h.depth, h.capacity, h.pages, h.ops, under);
-    memory::clear_all(work);
+    let h = reader.header;
+    start(reader, rows, work);
+    take_turns(reader, rows, work);
+    let under = table::tell_rows(rows, h.ops, res, work);
+    let total = result::finish(res, work, shape_of(h), h.ops, under);
+    clear(rows, work);
     total
 }
 
-// "A job that meets no row below is run": from the file as it came in to the result; then what was lent is cleared.
-fn run_accepted(job: &[u8], res: &mut [u8], rows: &mut [Row], work: &mut [u8]) -> usize
-    requires { Accepted job.now res.old rows.old work.old }
-    ensures { Ran job.now res.old res.new rows.old rows.new work.old work.new result }
+// THE LIBRARY: any bytes, and any lent result buffer, table and working memory. (They are three arguments, as C lends them.)
+pub fn run(job: &[u8], res: &mut [u8], rows: &mut [Row], work: &mut [u8]) -> Result<usize, Refusal>
+    ensures { Settled job.now res.old res.new rows.old rows.new work.old work.new (told result) }
 {
-    let h = Header::read(job);
-    let blank = Row::blank();
-    load(job, h, work);
-    table::fill(rows, blank);
-    take_turns(job, h, rows, work);
-    let under = table::tell_rows(rows, h.ops, res, work);
-    table::fill(rows, blank);
-    close(h, under, res, work)
-}
-
-pub fn done(total: usize) -> Outcome
-    ensures { result ≡ done_for total }
-{
-    Outcome::Done(total)
-}
-
-// THE LIBRARY: any bytes, and any lent result buffer, table and working memory.
-pub fn run(job: &[u8], res: &mut [u8], rows: &mut [Row], work: &mut [u8]) -> Outcome
-    ensures { Settled job.now res.old res.new rows.old rows.new work.old work.new result }
-{
-    let c = check_all(job, res.len(), rows.len(), work.len());
-    if is_accepted(c) {
-        let total = run_accepted(job, res, rows, work);
-        done(total)
-    } else {
-        refused(c)
-    }
+    let reader = check_all(job, Lent::of(res, rows, work))?;
+    Ok(run_accepted(reader, res, rows, work))
 }

@@ -1,9 +1,8 @@
 -- The turns of an insert or a delete that locks a page or holds one, in memory as in the machine; all but those of a split.
-use Rattle.std.specs.Prelude.{◌≡◌, List, ℕ, suc, ◌+◌, length, get_or, ltb}
+use Rattle.std.specs.Prelude.{◌≡◌, List, ℕ, suc, ◌+◌, length, get_or, ltb, Option, None, Some}
 use Rattle.std.proofs.Math.Path.{refl, ap}
 use Rattle.std.proofs.Common.{◌∙◌, arith}
 use Rattle.std.proofs.Math.Bool.{true, false}
-use Rattle.std.proofs.Math.Option.{Option, none, some}
 use Rattle.std.proofs.Math.Numerals.{add-one}
 use borrow.Author.Tests.{ltb-false}
 use Rattle.spec.specs.declared.Rec.{Rec}
@@ -20,7 +19,7 @@ use Rattle.spec.specs.File.{Page, page_at, entry_at, is_not, without, found_of}
 use Rattle.spec.specs.Job.{no_op}
 use Rattle.spec.specs.Split.{digit, added, all_share, split_count}
 use Rattle.spec.specs.State.{State, Move, go_lock}
-use Rattle.spec.specs.Turn.{home_of, rec_of, plan_of, new_count, cleared, placed, decided, struck, written, verified, held_turn, turn}
+use Rattle.spec.specs.Turn.{home_of, rec_of, plan_of, new_count, cleared, placed, decided, decided_at, written, verified, held_turn, turn}
 use Rattle.spec.specs.Run.{row_of}
 use Rattle.spec.specs.Proper.{PageNo, In}
 use Rattle.laws.specs.Tools.{if_both, if_ap, filter-le}
@@ -32,7 +31,7 @@ use Rattle.laws.specs.Turns.Work.{WorkTask}
 use Rattle.memory.specs.Memory.{lock_in, with_locks, turn_in}
 use Rattle.turn.specs.declared.Row.{Row}
 use Rattle.turn.specs.Rows.{row_image, moved}
-use Rattle.turn.specs.Steps.{Out, out, mem_lock, mem_verified, mem_refused, mem_taken, mem_full, mem_placed, mem_at_charge, mem_decided, mem_struck, mem_written, mem_held, mem_turn}
+use Rattle.turn.specs.Steps.{Out, out, mem_lock, mem_verified, mem_refused, mem_taken, mem_full, mem_placed, mem_at_charge, mem_decided, mem_decided_at, mem_written, mem_held, mem_turn}
 use Rattle.simulation.specs.Shown.{shape_of, Shown}
 use Rattle.simulation.specs.RowBack.{told}
 use Rattle.simulation.specs.Steady.{Steady}
@@ -106,21 +105,14 @@ module _ (ops : List Op) (s : State) (i : ℕ) (w : List ℕ) (st : Steady ops s
       → PageNo s.file x
       → entry_at s.file (home_of s.file op) ≡ x
       → Does (decided s op k (found_of x o)) (mem_decided (shape_of s.file) op s.now r w k (found_of x o))
-  unfolding decided mem_decided mem_at_charge mem_refused found_of
-  on_decide x Search none n e = goes_on ops s i w st h _
-  on_decide x Search (some c) n e = goes_on ops s i w st h _
-  on_decide x Insert none n e = rw (page-used ops s w st h x n) (on_placed x n e)
-  on_decide x Insert (some c) n e = tells ops s i w st h _ already_there c.charge x s.now
-  on_decide x Delete none n e = tells ops s i w st h _ absent 0 x s.now
-  on_decide x Delete (some c) n e =
+  unfolding decided_at mem_decided_at mem_at_charge mem_refused
+  on_decide x Search o n e = goes_on ops s i w st h _
+  on_decide x Insert None n e = rw (page-used ops s w st h x n) (on_placed x n e)
+  on_decide x Insert (Some c) n e = tells ops s i w st h _ already_there c.charge x s.now
+  on_decide x Delete None n e = tells ops s i w st h _ absent 0 x s.now
+  on_decide x Delete (Some c) n e =
       rw (← if_ap (λ (a : Row). out a w))
       (if_both Does (λ a. goes_on ops s i w st h _) (λ a. tells ops s i w st h _ differs c.charge x s.now))
-
-  -- a delete's answer, by what it finds
-  struck_is : (x : ℕ) (o : Option Rec) → mem_struck s.now r (found_of x o) ≡ told (moved r (Held x Unlock)) (struck s.now (found_of x o))
-  unfolding mem_struck struck told found_of
-  struck_is x none = refl
-  struck_is x (some c) = refl
 
   -- the page is written
   on_write
@@ -135,7 +127,7 @@ module _ (ops : List Op) (s : State) (i : ℕ) (w : List ℕ) (st : Steady ops s
       paged ops s i w st.good h.picture _ _ x _ (omega (arith, st.good.fit.within))
       (omega (arith, (t.1 e).1, put_length (page_at s.file x).records (rec_of op)))
   on_write x Delete e n t =
-      rw (look_is ops s w st h x op.call, struck_is)
+      rw (look_is ops s w st h x op.call)
       (paged ops s i w st.good h.picture _ _ x _ (omega (arith, st.good.fit.within))
       (let l = filter-le (is_not op.call) (page_at s.file x).records in omega (arith, (st.coherent.pages x).room)))
 

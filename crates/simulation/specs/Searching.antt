@@ -1,7 +1,6 @@
 -- The turns of a search, and the first turn of every operation, in memory as in the machine.
-use Rattle.std.specs.Prelude.{◌≡◌, refl, List, ℕ, get_or}
+use Rattle.std.specs.Prelude.{◌≡◌, refl, List, ℕ, get_or, Option, None, Some}
 use Rattle.std.proofs.Common.{sym}
-use Rattle.std.proofs.Math.Option.{Option, none, some}
 use Rattle.spec.specs.declared.Rec.{Rec}
 use Rattle.spec.specs.declared.Op.{Op}
 use Rattle.spec.specs.declared.Stage.{Stage}
@@ -10,14 +9,14 @@ use Rattle.spec.specs.Code.{found, not_found}
 use Rattle.spec.specs.File.{page_at, find_in, found_of}
 use Rattle.spec.specs.Job.{no_op}
 use Rattle.spec.specs.State.{State, same, answer, Move, go}
-use Rattle.spec.specs.Turn.{found_moment, looked, reread, turn}
+use Rattle.spec.specs.Turn.{found_moment, looked, looked_at, reread, turn}
 use Rattle.spec.specs.Run.{row_of, stage_of}
 use Rattle.spec.specs.Proper.{PageNo}
 use Rattle.laws.specs.Tools.{if_both}
 use Rattle.laws.specs.Turns.Slots.{found-moment}
 use Rattle.memory.specs.Memory.{turn_in}
 use Rattle.turn.specs.Rows.{row_image, moved, answered}
-use Rattle.turn.specs.Steps.{Out, out, found_at, mem_looked, mem_reread, mem_turn}
+use Rattle.turn.specs.Steps.{Out, out, found_at, mem_looked, mem_looked_at, mem_reread, mem_turn}
 use Rattle.simulation.specs.Shown.{shape_of, Shown}
 use Rattle.simulation.specs.RowBack.{told}
 use Rattle.simulation.specs.Steady.{Steady}
@@ -53,7 +52,7 @@ module _ (ops : List Op) (s : State) (i : ℕ) (w : List ℕ) (st : Steady ops s
       : (x : ℕ) (c : Rec)
       → PageNo s.file x
       → stage_of s i ≡ ReadPage x
-      → find_in (page_at s.file x).records op.call ≡ some c
+      → find_in (page_at s.file x).records op.call ≡ Some c
       → found_at (shape_of s.file) op s.now w x ≡ found_moment s op x
   unfolding found_at
   found-is x c n e q =
@@ -66,9 +65,9 @@ module _ (ops : List Op) (s : State) (i : ℕ) (w : List ℕ) (st : Steady ops s
       → stage_of s i ≡ ReadPage x
       → find_in (page_at s.file x).records op.call ≡ o
       → Does (looked s op (found_of x o)) (mem_looked (shape_of s.file) op s.now (row_image (row_of s i)) w (found_of x o))
-  unfolding looked mem_looked found_of
-  on_looked x none n e q = goes_on _
-  on_looked x (some c) n e q = rw (found-is x c n e q) (tells Done found c.charge x _)
+  unfolding looked_at mem_looked_at
+  on_looked x None n e q = goes_on _
+  on_looked x (Some c) n e q = rw (found-is x c n e q) (tells Done found c.charge x _)
 
   pub on_read : (x : ℕ) → stage_of s i ≡ ReadPage x → PageNo s.file x → Does (turn s op (ReadPage x)) (turned (ReadPage x))
   unfolding turn mem_turn

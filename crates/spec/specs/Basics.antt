@@ -1,6 +1,5 @@
 -- Small tools that several definitions share. Nothing of the document is here.
-use Rattle.std.specs.Prelude.{ℕ, suc, List, [], ◌∷◌, ◌++◌, Bool, true, false, ◌&&◌, ◌||◌}
-use Rattle.std.proofs.Math.Option.{Option, none, some}
+use Rattle.std.specs.Prelude.{ℕ, suc, List, [], ◌∷◌, ◌++◌, Bool, true, false, ◌&&◌, ◌||◌, Option, None, Some}
 
 -- a test decides. It stays shut where it is not named, so that a law on `if b x y` finds b, x and y
 unfoldable pub if : {A : Type 0} → Bool → A → A → A
@@ -14,21 +13,21 @@ each f (x ∷ xs) = f x ++ each f xs
 
 -- place p, where the test holds
 unfoldable pub when : Bool → ℕ → Option ℕ
-when true p = some p
-when false p = none
+when true p = Some p
+when false p = None
 
 unfoldable pub or_else : {A : Type 0} → Option A → Option A → Option A
-or_else none y = y
-or_else (some x) y = some x
+or_else None y = y
+or_else (Some x) y = Some x
 
 -- the first that is there. (`let`, here and below: what comes later is not computed where an earlier one decides)
 unfoldable pub among : List (Option ℕ) → Option ℕ
-among [] = none
+among [] = None
 among (x ∷ xs) = let rest = among xs in or_else x rest
 
 -- of the members of a list, numbered from i, the first for which f tells something: a place, or a fault
 unfoldable pub first_of : {A B : Type 0} → (ℕ → A → Option B) → ℕ → List A → Option B
-first_of f i [] = none
+first_of f i [] = None
 first_of f i (x ∷ xs) = let rest = first_of f (suc i) xs in or_else (f i x) rest
 
 -- the test holds of one of the members, numbered from i

@@ -1,7 +1,6 @@
 -- "Refused jobs": for each number of the table, the lowest place at which its row holds, and the first fault of a job. 12 and 13, and what 6 says,
 -- are document 02's, point 1; that 8 asks for rising calls is its point 10.
-use Rattle.std.specs.Prelude.{ℕ, ◌+◌, ◌-◌, ◌*◌, ◌^◌, List, [], ◌∷◌, Bool, not, ◌&&◌, ◌||◌, length, get_or, drop, ltb, leb, eqb}
-use Rattle.std.proofs.Math.Option.{Option, none, some}
+use Rattle.std.specs.Prelude.{ℕ, ◌+◌, ◌-◌, ◌*◌, ◌^◌, List, [], ◌∷◌, Bool, not, ◌&&◌, ◌||◌, length, get_or, drop, ltb, leb, eqb, Option, None, Some}
 use Rattle.spec.specs.declared.Rec.{Rec}
 use Rattle.spec.specs.Basics.{if, when, or_else, among, first_of, any_of}
 use Rattle.spec.specs.Bytes.{byte, word, long}
@@ -16,20 +15,20 @@ pub record Fault : Type 0 where
   pub place : ℕ
 
 unfoldable pub numbered : ℕ → Option ℕ → Option Fault
-numbered n none = none
-numbered n (some p) = some (record { number = n; place = p })
+numbered n None = None
+numbered n (Some p) = Some (record { number = n; place = p })
 
 -- A row of the table tells the fault that it finds in a job's bytes, or in a page's. Most have one number, and a test that tells the lowest place
 -- at which the row holds.
-abbrev pub Refusal : Type 0
-Refusal = List ℕ → Option Fault
+abbrev pub TableRow : Type 0
+TableRow = List ℕ → Option Fault
 
-abbrev pub row : ℕ → (List ℕ → Option ℕ) → Refusal
+abbrev pub row : ℕ → (List ℕ → Option ℕ) → TableRow
 row n test b = numbered n (test b)
 
 -- the fault of the first of some rows, in the list's order, that finds one
-unfoldable pub first_row : List Refusal → Refusal
-first_row [] b = none
+unfoldable pub first_row : List TableRow → TableRow
+first_row [] b = None
 first_row (r ∷ rs) b = let rest = first_row rs b in or_else (r b) rest
 
 unfoldable pub outside : ℕ → ℕ → ℕ → Bool
@@ -92,11 +91,11 @@ unfoldable pub not_cleared : ℕ → List ℕ → Option ℕ
 not_cleared a p = let n = 4 + record_size * byte p 1 in not_zero (a + n) (drop n p)
 
 -- "Checks: 12 .., then 6, then 13 ..": the rows of a page in use that begins at place a
-abbrev pub used_rows : Header → ℕ → List Refusal
+abbrev pub used_rows : Header → ℕ → List TableRow
 used_rows h a = row 12 (wrong_pattern h.g a) ∷ row 6 (over_count h.c a) ∷ row 13 (not_cleared a) ∷ []
 
 -- "and on an unused page 13 alone"
-abbrev pub unused_rows : ℕ → List Refusal
+abbrev pub unused_rows : ℕ → List TableRow
 unused_rows a = row 13 (not_zero a) ∷ []
 
 -- the first fault of page x, which has the bytes p
@@ -104,7 +103,7 @@ unfoldable pub page_fault : Header → ℕ → List ℕ → Option Fault
 page_fault h x p = let a = page_place h x in first_row (if (ltb h.used x) (unused_rows a) (used_rows h a)) p
 
 -- "within each page before the next page is looked at"
-unfoldable pub wrong_page : Refusal
+unfoldable pub wrong_page : TableRow
 wrong_page b = let h = header_of b in first_of (page_fault h) 1 (page_parts h b)
 
 -- the pattern of a page begins entry j
@@ -187,7 +186,7 @@ small_output l b = small_for (result_size (header_of b)) l b
 
 -- "Checked by rising number except that 11 comes last", and that 12, 6 and 13 stand "where 6 stood": the rows that are about a job's bytes alone, in
 -- the order in which they are checked
-abbrev pub rows : List Refusal
+abbrev pub rows : List TableRow
 rows =
     row 1 short
     ∷ row 2 wrong_version
@@ -201,7 +200,7 @@ rows =
     ∷ row 10 wrong_turn
     ∷ []
 
-unfoldable pub job_fault : Refusal
+unfoldable pub job_fault : TableRow
 job_fault b = first_row rows b
 
 -- all rows: 11 asks what is lent too, and comes last

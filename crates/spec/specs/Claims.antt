@@ -1,8 +1,7 @@
 -- Demand 3 as one record, `Explained`, of a job and a result; and what is claimed: it holds for every accepted job, given as bytes, and the result
 -- that is read from the bytes that are written. Then, for every accepted job, that calls rise in every page, `InOrder`; and of the pages that are
 -- told with the answers, `PagesTold`. Definitions only.
-use Rattle.std.specs.Prelude.{ℕ, suc, ◌<◌, ◌≤◌, ◌≡◌, ◌⊎◌, ◌↔◌, List, [], ◌∷◌, ◌++◌, map, true, length, get_or, take, eqb}
-use Rattle.std.proofs.Math.Option.{Option, none, some}
+use Rattle.std.specs.Prelude.{ℕ, suc, ◌<◌, ◌≤◌, ◌≡◌, ◌⊎◌, ◌↔◌, List, [], ◌∷◌, ◌++◌, map, true, length, get_or, take, eqb, Option, None, Some}
 use Rattle.spec.specs.declared.Rec.{Rec}
 use Rattle.spec.specs.declared.Op.{Op}
 use Rattle.spec.specs.declared.Kind.TheVariants.{Search}
@@ -77,7 +76,7 @@ fed j r n = replay j.ops r.answers (take n r.log) (contents j.file)
 
 -- the bytes meet no row of the refusal table that is about them (row 11 is about what is lent)
 abbrev pub Accepted : List ℕ → Type 0
-Accepted b = job_fault b ≡ none
+Accepted b = job_fault b ≡ None
 
 -- the bytes b are accepted as a job by themselves, and as a job they are the file f
 abbrev pub IsFile : List ℕ → File → Type 0
@@ -94,7 +93,7 @@ pub record Explained (j : Job) (r : Result) : Type 0 where
       : (p : ℕ)
       → p < length r.log
       → ((answer_at r (line_at r p).op).code ≡ no_depth) ⊎ ((answer_at r (line_at r p).op).code ≡ no_page)
-      → (find_in (fed j r p).list (op_at j r p).call ≡ none) × ((fed j r (suc p)).list ≡ (fed j r p).list)
+      → (find_in (fed j r p).list (op_at j r p).call ≡ None) × ((fed j r (suc p)).list ≡ (fed j r p).list)
   -- "the log has each operation whose code is not 0 once, and no other"
   pub once : (i : ℕ) → ((answer_at r i).code ≡ not_yet → ⊥) → times i r.log ≡ 1
   pub no_other : (i : ℕ) → (answer_at r i).code ≡ not_yet → times i r.log ≡ 0
@@ -103,7 +102,7 @@ pub record Explained (j : Job) (r : Result) : Type 0 where
   -- "At the end a call with its charge is in it exactly when the file after the last turn .. holds them, in whatever order"
   pub held : (c : Rec) → Has c (fed j r (length r.log)).list ↔ Has c (contents (run j).file)
   -- "a charge file in the result is that file"
-  pub charged : (b : List ℕ) → r.file ≡ some b → IsFile b (run j).file
+  pub charged : (b : List ℕ) → r.file ≡ Some b → IsFile b (run j).file
   -- "no call twice": in the list and in the file, at any time
   pub list_once : (n : ℕ) → NoneTwice (fed j r n).list
   pub file_once : (t : ℕ) → t ≤ length j.turns → NoneTwice (contents (state_at j t).file)
@@ -188,20 +187,20 @@ pub record PagesTold (j : Job) (r : Result) : Type 0 where
       → (answer_at r i).code ≡ found
       → (t : ℕ)
       × LastRead j i (told_at r i) t
-      × (in_page (state_at j t).file (told_at r i) (call_at j i) ≡ some (record { call = call_at j i; charge = (answer_at r i).charge }))
+      × (in_page (state_at j t).file (told_at r i) (call_at j i) ≡ Some (record { call = call_at j i; charge = (answer_at r i).charge }))
   -- and where it found none, the page did not have it; that reading is the moment
   pub lacks
       : (p : ℕ)
       → p < length r.log
       → (answer_at r (line_at r p).op).code ≡ not_found
       → LastRead j (line_at r p).op (line_told r p) (line_at r p).moment
-      × (in_page (state_at j (line_at r p).moment).file (line_told r p) (op_at j r p).call ≡ none)
+      × (in_page (state_at j (line_at r p).moment).file (line_told r p) (op_at j r p).call ≡ None)
   -- "the page that holds the call at a stored insert's moment"
   pub holds
       : (p : ℕ)
       → p < length r.log
       → (answer_at r (line_at r p).op).code ≡ stored
-      → in_page (file_then j r p) (line_told r p) (op_at j r p).call ≡ some (rec_of (op_at j r p))
+      → in_page (file_then j r p) (line_told r p) (op_at j r p).call ≡ Some (rec_of (op_at j r p))
   -- "the page read in turn (d) by the rest"
   pub decides
       : (i : ℕ)

@@ -1,10 +1,8 @@
 -- "Turns dealt for the site": the turn list that is made for a job with operations and no turns, and what is refused.
-use Rattle.std.specs.Prelude.{ℕ, zero, suc, ◌+◌, ◌*◌, List, [], ◌∷◌, ◌++◌, Bool, true, false, not, length, eqb}
-use Rattle.std.proofs.Math.Option.{Option}
+use Rattle.std.specs.Prelude.{ℕ, zero, suc, ◌+◌, ◌*◌, List, [], ◌∷◌, ◌++◌, Bool, true, false, not, length, eqb, Option}
 use Rattle.spec.specs.declared.Op.{Op}
 use Rattle.spec.specs.declared.Stage.{Stage}
 use Rattle.spec.specs.declared.Stage.TheVariants.{NotBegun, ReadPage, Reread, Lock, Held, Split, Done}
-use Rattle.spec.specs.declared.Outcome.{Outcome}
 use Rattle.spec.specs.Basics.{if, when, or_else, all_of}
 use Rattle.spec.specs.Job.{Job, turn_count_at, turn_size}
 use Rattle.spec.specs.Encode.{encode_job}
@@ -12,7 +10,7 @@ use Rattle.spec.specs.Decode.{header_of, job_of}
 use Rattle.spec.specs.State.{Row, State}
 use Rattle.spec.specs.Run.{stage_of, idle, step, start, steps}
 use Rattle.spec.specs.Check.{Lent, Fault, numbered, small_for, job_fault}
-use Rattle.spec.specs.Outcome.{outcome_by, buffer_by, rows_by, work_by}
+use Rattle.spec.specs.Outcome.{Outcome, outcome_by, buffer_by, rows_by, work_by}
 
 -- "The list never has more than 10,238 turns". So there are no more rounds than that, since each of them deals a turn
 abbrev pub max_dealt : ℕ

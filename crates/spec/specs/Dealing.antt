@@ -1,13 +1,12 @@
 -- Dealing by computation: jobs with the list dealt for them, byte for byte, with what is lent afterwards; and each refusal with those that come before
 -- and after it.
 use Rattle.std.specs.Prelude.{ℕ, ◌≡◌, refl, List, [], ◌∷◌, ◌++◌, map, set, take, drop, replicate}
-use Rattle.spec.specs.declared.Outcome.{Outcome}
-use Rattle.spec.specs.declared.Outcome.TheVariants.{Done, Refused}
 use Rattle.spec.specs.Basics.{each}
 use Rattle.spec.specs.Bytes.{two}
 use Rattle.spec.specs.Check.{Lent}
 use Rattle.spec.specs.Deal.{deal_outcome, deal_buffer, deal_rows, deal_work}
 use Rattle.spec.specs.Worked.{job_b, result_b, job_h, job_j}
+use Rattle.spec.specs.Outcome.{Outcome, done, refused}
 use Rattle.spec.specs.Opened.{opened}
 
 -- (H), job E without its turns, with the list of 22 turns that is dealt for it: operation 2 is passed over while operation 0 holds page 1
@@ -37,21 +36,21 @@ row o r w b outcome = record { lent = lend o r w; job = b; paper = outcome }
 
 abbrev items : List Item
 items =
-    row 20592 4 24576 job_h (Done 160)
-    ∷ row 20552 0 24576 file_b (Done 76)
-    ∷ row 20591 4 24576 job_h (Refused 11 0)  -- 11: each of the three, and the first of them
-    ∷ row 20592 3 24576 job_h (Refused 11 1)
-    ∷ row 20592 4 24575 job_h (Refused 11 2)
-    ∷ row 20591 3 24575 job_h (Refused 11 0)
-    ∷ row 20592 3 24575 job_h (Refused 11 1)
-    ∷ row 20551 0 24576 file_b (Refused 11 0)
-    ∷ row 20552 0 24575 file_b (Refused 11 2)
-    ∷ row 20632 4 24576 job_b (Refused 21 10)  -- 21, and before 11
-    ∷ row 0 0 0 job_b (Refused 21 10)
-    ∷ row 20632 4 24576 (job_j 4) (Refused 10 116)  -- the job's own, before both
-    ∷ row 0 0 0 (job_j 4) (Refused 10 116)
-    ∷ row 0 0 0 (set job_b 0 1) (Refused 2 0)
-    ∷ row 0 0 0 (take 31 job_h) (Refused 1 31)
+    row 20592 4 24576 job_h (done 160)
+    ∷ row 20552 0 24576 file_b (done 76)
+    ∷ row 20591 4 24576 job_h (refused 11 0)  -- 11: each of the three, and the first of them
+    ∷ row 20592 3 24576 job_h (refused 11 1)
+    ∷ row 20592 4 24575 job_h (refused 11 2)
+    ∷ row 20591 3 24575 job_h (refused 11 0)
+    ∷ row 20592 3 24575 job_h (refused 11 1)
+    ∷ row 20551 0 24576 file_b (refused 11 0)
+    ∷ row 20552 0 24575 file_b (refused 11 2)
+    ∷ row 20632 4 24576 job_b (refused 21 10)  -- 21, and before 11
+    ∷ row 0 0 0 job_b (refused 21 10)
+    ∷ row 20632 4 24576 (job_j 4) (refused 10 116)  -- the job's own, before both
+    ∷ row 0 0 0 (job_j 4) (refused 10 116)
+    ∷ row 0 0 0 (set job_b 0 1) (refused 2 0)
+    ∷ row 0 0 0 (take 31 job_h) (refused 1 31)
     ∷ []
 
 table : map (λ (i : Item). deal_outcome i.lent i.job) items ≡ map (λ (i : Item). i.paper) items

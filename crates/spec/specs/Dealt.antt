@@ -1,6 +1,5 @@
 -- What is claimed of the turn list that is dealt for a job, and of the job that is written with it. Definitions only.
-use Rattle.std.specs.Prelude.{ℕ, ◌+◌, ◌-◌, ◌*◌, ◌<◌, ◌≤◌, ◌≡◌, List, [], ◌++◌, length, get_or, take, drop}
-use Rattle.std.proofs.Math.Option.{none}
+use Rattle.std.specs.Prelude.{ℕ, ◌+◌, ◌-◌, ◌*◌, ◌<◌, ◌≤◌, ◌≡◌, List, [], ◌++◌, length, get_or, take, drop, None}
 use Rattle.spec.specs.Basics.{each}
 use Rattle.spec.specs.Bytes.{two, four, AreBytes}
 use Rattle.spec.specs.Job.{Job, header_size, turn_count_at, total_at, turn_size}
@@ -46,4 +45,4 @@ pub record DealtWritten (b : List ℕ) : Type 0 where
 
 -- TURNS DEALT: so it is of every job that is accepted and has no turns, given as its bytes
 abbrev pub DealsTurns : Type 0
-DealsTurns = (b : List ℕ) → AreBytes b → Accepted b → turns_present b ≡ none → DealtWritten b
+DealsTurns = (b : List ℕ) → AreBytes b → Accepted b → turns_present b ≡ None → DealtWritten b

@@ -1,9 +1,7 @@
 -- "The file": pages, directory, and what the file holds.
-use Rattle.std.specs.Prelude.{ℕ, zero, suc, ◌^◌, List, [], ◌∷◌, ◌++◌, Bool, not, get_or, take, drop, ltb, eqb}
-use Rattle.std.proofs.Math.Option.{Option, none, some}
+use Rattle.std.specs.Prelude.{ℕ, zero, suc, ◌^◌, List, [], ◌∷◌, ◌++◌, Bool, not, get_or, take, drop, ltb, eqb, Option, None, Some, option_map}
 use Rattle.spec.specs.declared.Rec.{Rec}
 use Rattle.spec.specs.declared.Found.{Found}
-use Rattle.spec.specs.declared.Found.TheVariants.{Charge, Missing}
 use Rattle.spec.specs.Basics.{if, filter}
 use Rattle.spec.specs.Key.{index}
 
@@ -44,18 +42,17 @@ pages_in_use f = take f.used (drop 1 f.table)
 
 -- the record of a call, among some records
 unfoldable pub find_in : List Rec → ℕ → Option Rec
-find_in [] k = none
-find_in (r ∷ rs) k = if (eqb r.call k) (some r) (find_in rs k)
+find_in [] k = None
+find_in (r ∷ rs) k = if (eqb r.call k) (Some r) (find_in rs k)
 
 -- the same for records that stand by rising call number: "may then stop at the first higher number, and finds what it found before"
 unfoldable pub look_in : List Rec → ℕ → Option Rec
-look_in [] k = none
-look_in (r ∷ rs) k = if (ltb k r.call) none (if (eqb r.call k) (some r) (look_in rs k))
+look_in [] k = None
+look_in (r ∷ rs) k = if (ltb k r.call) None (if (eqb r.call k) (Some r) (look_in rs k))
 
 -- "Looking into a page must .. report which page it was to every caller": page x, with the charge of the call's record there, or without
-unfoldable pub found_of : ℕ → Option Rec → Found
-found_of x none = Missing x
-found_of x (some r) = Charge x r.charge
+abbrev pub found_of : ℕ → Option Rec → Found
+found_of x o = record { page = x; charge = option_map (λ r. r.charge) o }
 
 -- page x is looked into for a call, among all its records
 abbrev pub look_into : File → ℕ → ℕ → Found

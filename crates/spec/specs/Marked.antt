@@ -1,10 +1,8 @@
 -- The marked items of "Jobs worked through" as one table, from job bytes to result bytes, refusal or printed text. One proof covers its rows.
 -- A second table is for calls that rise, a third for the pages told with answers, a fourth for deletes at a charge, a fifth for calls that share
 -- a pseudo key, a sixth for how many turns an operation uses at most, a seventh for how many rounds finish a job, and an eighth for lists dealt.
-use Rattle.std.specs.Prelude.{ℕ, ◌≡◌, refl, List, [], ◌∷◌, ◌++◌, map, length, drop, replicate}
+use Rattle.std.specs.Prelude.{ℕ, ◌≡◌, refl, List, [], ◌∷◌, ◌++◌, map, length, drop, replicate, Ok, Err}
 use Rattle.spec.specs.declared.Rec.{Rec}
-use Rattle.spec.specs.declared.Outcome.{Outcome}
-use Rattle.spec.specs.declared.Outcome.TheVariants.{Done, Refused}
 use Rattle.spec.specs.declared.Kind.{Kind}
 use Rattle.spec.specs.declared.Kind.TheVariants.{Search, Insert, Delete}
 use Rattle.spec.specs.Key.{pseudo_key}
@@ -15,7 +13,7 @@ use Rattle.spec.specs.Run.{run}
 use Rattle.spec.specs.Result.{Told, Result, count_under, read_result}
 use Rattle.spec.specs.PlainList.{Reply, Replay}
 use Rattle.spec.specs.Check.{Lent}
-use Rattle.spec.specs.Outcome.{result_bytes, outcome, buffer_after}
+use Rattle.spec.specs.Outcome.{Outcome, result_bytes, outcome, buffer_after}
 use Rattle.spec.specs.Report.{printed}
 use Rattle.spec.specs.Deal.{dealt}
 use Rattle.spec.specs.Claims.{fed}
@@ -81,10 +79,10 @@ a ⇒ p = record { asked = a; paper = p }
 
 -- a result written over the lent buffer; and a refused job's, which is not written
 abbrev ran : List ℕ → Said
-ran r = ends (Done (length r)) (r ++ drop (length r) buffer)
+ran r = ends (Ok (length r)) (r ++ drop (length r) buffer)
 
 abbrev refused : ℕ → ℕ → Said
-refused n p = ends (Refused n p) buffer
+refused n p = ends (Err (record { number = n; place = p })) buffer
 
 infix 90 ◌=>◌
 abbrev ◌=>◌ : ℕ → ℕ → Rec

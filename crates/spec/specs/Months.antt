@@ -1,6 +1,5 @@
 -- Months one after another: each job's file is the charge file of the result before it, as it is or tidied. One plain list is fed all their logs.
-use Rattle.std.specs.Prelude.{ℕ, ◌≡◌, ◌↔◌, List, [], ◌∷◌, map}
-use Rattle.std.proofs.Math.Option.{none, some}
+use Rattle.std.specs.Prelude.{ℕ, ◌≡◌, ◌↔◌, List, [], ◌∷◌, map, None, Some}
 use Rattle.spec.specs.declared.Rec.{Rec}
 use Rattle.spec.specs.Basics.{Has}
 use Rattle.spec.specs.Bytes.{AreBytes}
@@ -15,14 +14,14 @@ use Rattle.spec.specs.Claims.{Accepted, answer_at}
 -- f is the file of the charge file b, as it is or tidied
 pub data Taken (b : List ℕ) (f : File) : Type 0 where
   as_it_is : f ≡ file_of b → Taken b f
-  tidied : (room d : ℕ) → tidy_fault room d b ≡ none → f ≡ file_of (tidy_bytes d b) → Taken b f
+  tidied : (room d : ℕ) → tidy_fault room d b ≡ None → f ≡ file_of (tidy_bytes d b) → Taken b f
 
 -- the bytes b are a job of the month after job a's: accepted, and its file is the charge file of a's result, as it is or tidied
 pub record Follows (a b : List ℕ) : Type 0 where
   pub bytes : AreBytes b
   pub accepted : Accepted b
   pub charges : List ℕ
-  pub left : (result (job_of a)).file ≡ some charges
+  pub left : (result (job_of a)).file ≡ Some charges
   pub taken : Taken charges (file_of b)
 
 -- jobs of months one after another, behind job a

@@ -1,8 +1,5 @@
 -- What a call of the library comes to for any bytes and any lent buffers: the outcome, and every lent buffer afterwards.
-use Rattle.std.specs.Prelude.{ℕ, List, ◌++◌, length, drop, replicate}
-use Rattle.std.proofs.Math.Option.{Option, none, some}
-use Rattle.spec.specs.declared.Outcome.{Outcome}
-use Rattle.spec.specs.declared.Outcome.TheVariants.{Done, Refused}
+use Rattle.std.specs.Prelude.{ℕ, List, ◌++◌, length, drop, replicate, Option, None, Some, Result, Ok, Err}
 use Rattle.spec.specs.Check.{Lent, Fault, first_fault}
 use Rattle.spec.specs.Decode.{job_of}
 use Rattle.spec.specs.Result.{result, encode_result}
@@ -12,14 +9,23 @@ unfoldable pub result_bytes : List ℕ → List ℕ
 result_bytes b = encode_result (result (job_of b))
 
 -- "A refusal gives the number and a place"; an output "is answered with its length": the cases of an outcome
+abbrev pub Outcome : Type 0
+Outcome = Result ℕ Fault
+
+abbrev pub done : ℕ → Outcome
+done n = Ok n
+
+abbrev pub refused : ℕ → ℕ → Outcome
+refused n p = Err (record { number = n; place = p })
+
 unfoldable pub outcome_by : Option Fault → List ℕ → Outcome
-outcome_by none output = Done (length output)
-outcome_by (some f) output = Refused f.number f.place
+outcome_by None output = Ok (length output)
+outcome_by (Some f) output = Err f
 
 -- "Nothing lent is written" where a call is refused
 unfoldable pub after_call : {A : Type 0} → Option Fault → A → A → A
-after_call none before after = after
-after_call (some f) before after = before
+after_call None before after = after
+after_call (Some f) before after = before
 
 -- the buffer of an output: "bytes past it keep their values"
 unfoldable pub buffer_by : Option Fault → List ℕ → List ℕ → List ℕ

@@ -1,6 +1,5 @@
 -- "The plain list": one operation at a time on a list of calls with charges, and the log replayed on it.
-use Rattle.std.specs.Prelude.{ℕ, ◌≡◌, List, [], ◌∷◌, ◌++◌, Bool, ◌||◌, get_or, eqb}
-use Rattle.std.proofs.Math.Option.{Option, none, some}
+use Rattle.std.specs.Prelude.{ℕ, ◌≡◌, List, [], ◌∷◌, ◌++◌, Bool, ◌||◌, get_or, eqb, Option, None, Some}
 use Rattle.spec.specs.declared.Rec.{Rec}
 use Rattle.spec.specs.declared.Op.{Op}
 use Rattle.spec.specs.declared.Kind.{Kind}
@@ -14,7 +13,7 @@ use Rattle.spec.specs.Result.{Told, Line}
 -- "no call twice": of each record in a list, the rest has no record with its call
 pub data NoneTwice : List Rec → Type 0 where
   empty : NoneTwice []
-  more : {r : Rec} {rs : List Rec} → find_in rs r.call ≡ none → NoneTwice rs → NoneTwice (r ∷ rs)
+  more : {r : Rec} {rs : List Rec} → find_in rs r.call ≡ None → NoneTwice rs → NoneTwice (r ∷ rs)
 
 -- What the plain list answers to one operation, and the list after it.
 pub record Plain : Type 0 where
@@ -39,15 +38,15 @@ hint k = if (turned_down k) k 0
 -- with the file's charge .. and nothing changes"
 -- (the third argument is what the list has of the operation's call)
 unfoldable pub plain_step : Kind → Op → Option Rec → ℕ → List Rec → Plain
-plain_step Search op (some r) told l = plain found r.charge l
-plain_step Search op none told l = plain not_found 0 l
-plain_step Insert op (some r) told l = plain already_there r.charge l
-plain_step Insert op none told l =
+plain_step Search op (Some r) told l = plain found r.charge l
+plain_step Search op None told l = plain not_found 0 l
+plain_step Insert op (Some r) told l = plain already_there r.charge l
+plain_step Insert op None told l =
     if (turned_down told) (plain told 0 l)
     (plain stored op.charge (l ++ (record { call = op.call; charge = op.charge } ∷ [])))
-plain_step Delete op (some r) told l =
+plain_step Delete op (Some r) told l =
     if (strikes op.charge r.charge) (plain deleted r.charge (without l op.call)) (plain differs r.charge l)
-plain_step Delete op none told l = plain absent 0 l
+plain_step Delete op None told l = plain absent 0 l
 
 abbrev pub nothing_told : Told
 nothing_told = record { code = 0; page = 0; used = 0; charge = 0 }

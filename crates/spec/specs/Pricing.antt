@@ -1,11 +1,10 @@
 -- The tariff by computation: the classes of the hours, charges at the edges of their rules, and calls with each refusal and the buffer afterwards.
-use Rattle.std.specs.Prelude.{ℕ, ◌+◌, ◌*◌, ◌≡◌, refl, List, [], ◌∷◌, ◌++◌, map, set, take, replicate}
-use Rattle.spec.specs.declared.Outcome.{Outcome}
-use Rattle.spec.specs.declared.Outcome.TheVariants.{Done, Refused}
+use Rattle.std.specs.Prelude.{ℕ, ◌+◌, ◌*◌, ◌≡◌, refl, List, [], ◌∷◌, ◌++◌, map, set, take, replicate, Ok, Err}
 use Rattle.spec.specs.Basics.{each}
 use Rattle.spec.specs.Bytes.{two, four}
 use Rattle.spec.specs.SwitchLog.{Logged}
 use Rattle.spec.specs.Tariff.{Band, charge_in, price_outcome, price_buffer}
+use Rattle.spec.specs.Outcome.{Outcome}
 use Rattle.spec.specs.Opened.{opened}
 
 -- a call of band 7, with this start and so many seconds talked
@@ -122,10 +121,10 @@ record Case : Type 0 where
   left : List ℕ
 
 abbrev priced : List ℕ → List ℕ → ℕ → ℕ → List ℕ → Case
-priced t l room n x = record { tariff = t; log = l; room = room; outcome = Done n; left = x }
+priced t l room n x = record { tariff = t; log = l; room = room; outcome = Ok n; left = x }
 
 abbrev refused : List ℕ → List ℕ → ℕ → ℕ → ℕ → Case
-refused t l room n p = record { tariff = t; log = l; room = room; outcome = Refused n p; left = replicate room 7 }
+refused t l room n p = record { tariff = t; log = l; room = room; outcome = Err (record { number = n; place = p }); left = replicate room 7 }
 
 abbrev cases : List Case
 cases =

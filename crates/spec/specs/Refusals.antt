@@ -1,6 +1,5 @@
 -- "Refused jobs", condition by condition: each row of this table changes a few bytes of a job that is run, or what is lent to it. One proof.
-use Rattle.std.specs.Prelude.{ℕ, ◌≡◌, refl, List, [], ◌∷◌, ◌++◌, map}
-use Rattle.std.proofs.Math.Option.{Option, none, some}
+use Rattle.std.specs.Prelude.{ℕ, ◌≡◌, refl, List, [], ◌∷◌, ◌++◌, map, Option, None, Some}
 use lib.ListN.{set, take, replicate}
 use Rattle.spec.specs.Check.{Lent, Fault, first_fault}
 use Rattle.spec.specs.Outcome.{buffer_after, rows_after, work_after}
@@ -48,10 +47,10 @@ enough = lend 144 2 24576
 
 -- a job that is run; one that is refused with this number and place; and the base with the byte at a place made another
 abbrev fine : Lent → List ℕ → Edit
-fine l b = record { lent = l; bytes = b; says = none }
+fine l b = record { lent = l; bytes = b; says = None }
 
 abbrev lending : ℕ → ℕ → ℕ → List ℕ → ℕ → ℕ → Edit
-lending r t w b n p = record { lent = lend r t w; bytes = b; says = some (record { number = n; place = p }) }
+lending r t w b n p = record { lent = lend r t w; bytes = b; says = Some (record { number = n; place = p }) }
 
 abbrev other : List ℕ → ℕ → ℕ → Edit
 other b n p = lending 144 2 24576 b n p

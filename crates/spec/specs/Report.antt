@@ -1,6 +1,5 @@
 -- "Jobs worked through": what `chargelog` prints, as bytes.
-use Rattle.std.specs.Prelude.{ℕ, zero, suc, ◌+◌, ◌/◌, ◌%◌, List, [], ◌∷◌, ◌++◌, length, get_or, ltb}
-use Rattle.std.proofs.Math.Option.{Option, none, some}
+use Rattle.std.specs.Prelude.{ℕ, zero, suc, ◌+◌, ◌/◌, ◌%◌, List, [], ◌∷◌, ◌++◌, length, get_or, ltb, Option, None, Some}
 use Rattle.spec.specs.declared.Rec.{Rec}
 use Rattle.spec.specs.declared.Op.{Op}
 use Rattle.spec.specs.declared.Kind.{Kind}
@@ -96,8 +95,8 @@ page_lines x (p ∷ ps) = page_line x p ++ page_lines (suc x) ps
 
 -- "a `page` line, only with a charge file and for pages in use"
 unfoldable pub pages_part : Option (List ℕ) → List ℕ
-pages_part none = []
-pages_part (some f) = page_lines 1 (pages_in_use (file_of f))
+pages_part None = []
+pages_part (Some f) = page_lines 1 (pages_in_use (file_of f))
 
 unfoldable pub report : Job → Result → List ℕ
 report j r = job_line j ++ op_lines 0 j.ops r.answers ++ each at_line r.log ++ pages_part r.file
@@ -107,8 +106,8 @@ unfoldable pub refused_line : Fault → List ℕ
 refused_line f = text "refused " ++ decimal f.number ++ text " " ++ decimal f.place ++ newline
 
 unfoldable pub printed_by : Option Fault → List ℕ → List ℕ
-printed_by none b = report (job_of b) (result (job_of b))
-printed_by (some f) b = refused_line f
+printed_by None b = report (job_of b) (result (job_of b))
+printed_by (Some f) b = refused_line f
 
 -- (`chargelog` lends enough for every job, so that row 11 never holds)
 unfoldable pub printed : List ℕ → List ℕ

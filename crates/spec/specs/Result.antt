@@ -1,6 +1,5 @@
 -- "The result": answers, log, the charge file or none; the result's bytes, and what any bytes say, read as a result.
-use Rattle.std.specs.Prelude.{ℕ, zero, suc, ◌+◌, ◌-◌, ◌*◌, List, [], ◌∷◌, ◌++◌, map, Bool, true, false, not, ◌&&◌, length, take, drop, eqb}
-use Rattle.std.proofs.Math.Option.{Option, none, some}
+use Rattle.std.specs.Prelude.{ℕ, zero, suc, ◌+◌, ◌-◌, ◌*◌, List, [], ◌∷◌, ◌++◌, map, Bool, true, false, not, ◌&&◌, length, take, drop, eqb, Option, None, Some}
 use Rattle.spec.specs.declared.Stage.{Stage}
 use Rattle.spec.specs.declared.Stage.TheVariants.{NotBegun, ReadPage, Reread, Lock, Held, Split, Done}
 use Rattle.spec.specs.Basics.{if, each}
@@ -108,12 +107,12 @@ file_offset m lines = log_offset m + line_size * lines
 
 -- "there is no charge file and its offset is 0": the charge file's offset and bytes in the result
 unfoldable pub offset_field : Option (List ℕ) → ℕ → ℕ
-offset_field none at = 0
-offset_field (some f) at = at
+offset_field None at = 0
+offset_field (Some f) at = at
 
 unfoldable pub file_bytes : Option (List ℕ) → List ℕ
-file_bytes none = []
-file_bytes (some f) = f
+file_bytes None = []
+file_bytes (Some f) = f
 
 -- What a result says: of its header the version, the operations begun but unfinished and the total; answers; log; the bytes of the charge file,
 -- or none. (m and L are the lengths of answers and log.)
@@ -127,7 +126,7 @@ pub record Result : Type 0 where
 
 -- "If any operation is begun but unfinished, there is no charge file"
 unfoldable pub file_left : State → Option (List ℕ)
-file_left s = if (eqb (count_under s.rows) 0) (some (encode_file s.file)) none
+file_left s = if (eqb (count_under s.rows) 0) (Some (encode_file s.file)) None
 
 unfoldable pub result_of : State → Result
 result_of s =
@@ -193,7 +192,7 @@ unfoldable pub file_part : List ℕ → List ℕ
 file_part b = take (long b result_total_at - long b file_offset_at) (drop (long b file_offset_at) b)
 
 unfoldable pub file_in : List ℕ → Option (List ℕ)
-file_in b = if (eqb (long b file_offset_at) 0) none (some (file_part b))
+file_in b = if (eqb (long b file_offset_at) 0) None (Some (file_part b))
 
 -- What any bytes say, read as a result. Total, as the reading of a job is; other bytes may stand behind those of a result.
 unfoldable pub read_result : List ℕ → Result

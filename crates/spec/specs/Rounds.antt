@@ -1,6 +1,5 @@
 -- Rounds of turns, and what is claimed of them for every accepted job, given as bytes: so many rounds finish every operation. Definitions only.
-use Rattle.std.specs.Prelude.{ℕ, zero, suc, ◌+◌, ◌*◌, ◌<◌, ◌≤◌, ◌≡◌, List, [], ◌∷◌, ◌++◌, length}
-use Rattle.std.proofs.Math.Option.{some}
+use Rattle.std.specs.Prelude.{ℕ, zero, suc, ◌+◌, ◌*◌, ◌<◌, ◌≤◌, ◌≡◌, List, [], ◌∷◌, ◌++◌, length, Some}
 use Rattle.spec.specs.declared.Op.{Op}
 use Rattle.spec.specs.declared.Kind.TheVariants.{Search}
 use Rattle.spec.specs.declared.Stage.TheVariants.{Done}
@@ -56,7 +55,7 @@ AllDone j s = (i : ℕ) → i < length j.ops → stage_of s i ≡ Done
 pub record Complete (j : Job) (r : Result) : Type 0 where
   pub answered : (i : ℕ) → i < length j.ops → (answer_at r i).code ≡ not_yet → ⊥
   pub ended : r.unended ≡ 0
-  pub file : r.file ≡ some (encode_file (run j).file)
+  pub file : r.file ≡ Some (encode_file (run j).file)
 
 -- What rounds come to, of the job j under any list, "also one longer than a job can carry"; and of its result r.
 pub record GetsDone (j : Job) (r : Result) : Type 0 where

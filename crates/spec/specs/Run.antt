@@ -1,6 +1,5 @@
 -- "Turns": a move applied, one turn given to an operation, and the run of a turn list.
-use Rattle.std.specs.Prelude.{ℕ, zero, suc, ◌+◌, List, [], ◌∷◌, Bool, true, false, length, get_or, set, replicate}
-use Rattle.std.proofs.Math.Option.{Option, none, some}
+use Rattle.std.specs.Prelude.{ℕ, zero, suc, ◌+◌, List, [], ◌∷◌, Bool, true, false, length, get_or, set, replicate, Option, None, Some}
 use Rattle.spec.specs.declared.Op.{Op}
 use Rattle.spec.specs.declared.Stage.{Stage}
 use Rattle.spec.specs.declared.Stage.TheVariants.{NotBegun, ReadPage, Reread, Lock, Held, Split, Done}
@@ -16,16 +15,16 @@ fill l i zero v = l
 fill l i (suc n) v = fill (set l i v) (suc i) n v
 
 unfoldable pub table_after : Option PageWrite → List Page → List Page
-table_after none t = t
-table_after (some w) t = set t w.number w.page
+table_after None t = t
+table_after (Some w) t = set t w.number w.page
 
 unfoldable pub directory_after : Option EntryWrite → List ℕ → List ℕ
-directory_after none d = d
-directory_after (some w) d = set d w.entry w.number
+directory_after None d = d
+directory_after (Some w) d = set d w.entry w.number
 
 unfoldable pub changes_after : Option EntryWrite → State → List Change
-changes_after none s = s.changes
-changes_after (some w) s = record { turn = s.now; entry = w.entry; from = entry_at s.file w.entry } ∷ s.changes
+changes_after None s = s.changes
+changes_after (Some w) s = record { turn = s.now; entry = w.entry; from = entry_at s.file w.entry } ∷ s.changes
 
 abbrev pub file_after : Move → File → File
 file_after m f =

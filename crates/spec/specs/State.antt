@@ -1,6 +1,5 @@
 -- "Turns": what a turn finds and leaves, and what one turn does.
-use Rattle.std.specs.Prelude.{ℕ, List, Bool, false}
-use Rattle.std.proofs.Math.Option.{Option, none, some}
+use Rattle.std.specs.Prelude.{ℕ, List, Bool, false, Option, None, Some}
 use Rattle.spec.specs.declared.Stage.{Stage}
 use Rattle.spec.specs.declared.Stage.TheVariants.{NotBegun, Done}
 use Rattle.spec.specs.Code.{not_yet}
@@ -65,11 +64,11 @@ gone = record { stage = Done; used = 0; code = not_yet; charge = 0; page = 0; mo
 
 -- the kinds of move: nothing shared changes; locks change; a page is written; an entry is written
 abbrev pub go : Stage → Answer → Move
-go st a = record { stage = st; answer = a; from = 0; count = 0; value = false; takes = 0; page = none; entry = none }
+go st a = record { stage = st; answer = a; from = 0; count = 0; value = false; takes = 0; page = None; entry = None }
 
 abbrev pub go_lock : Stage → ℕ → ℕ → Bool → ℕ → Move
 go_lock st from n v takes =
-    record { stage = st; answer = same; from = from; count = n; value = v; takes = takes; page = none; entry = none }
+    record { stage = st; answer = same; from = from; count = n; value = v; takes = takes; page = None; entry = None }
 
 abbrev pub go_page : Stage → Answer → ℕ → Page → Move
 go_page st a x p =
@@ -80,8 +79,8 @@ go_page st a x p =
       count = 0;
       value = false;
       takes = 0;
-      page = some (record { number = x; page = p });
-      entry = none;
+      page = Some (record { number = x; page = p });
+      entry = None;
     }
 
 abbrev pub go_entry : Stage → Answer → ℕ → ℕ → Move
@@ -93,6 +92,6 @@ go_entry st a j x =
       count = 0;
       value = false;
       takes = 0;
-      page = none;
-      entry = some (record { entry = j; number = x });
+      page = None;
+      entry = Some (record { entry = j; number = x });
     }

@@ -1,6 +1,5 @@
 -- The switch's log, from which charges are worked out. (The log of a result, which is another thing, is in Result.antt.)
-use Rattle.std.specs.Prelude.{ℕ, ◌/◌, ◌%◌, List, map, not, length, eqb}
-use Rattle.std.proofs.Math.Option.{Option}
+use Rattle.std.specs.Prelude.{ℕ, ◌/◌, ◌%◌, List, map, not, length, eqb, Option}
 use Rattle.spec.specs.Basics.{when}
 use Rattle.spec.specs.Bytes.{byte, word, long, parts}
 

@@ -1,15 +1,13 @@
 -- "The tariff": charges worked out from the switch's log, as inserts for a job.
-use Rattle.std.specs.Prelude.{ℕ, ◌+◌, ◌-◌, ◌*◌, ◌/◌, ◌%◌, List, [], ◌∷◌, map, Bool, not, ◌||◌, length, get_or, take, ltb, leb, eqb}
-use Rattle.std.proofs.Math.Option.{Option, none, some}
+use Rattle.std.specs.Prelude.{ℕ, ◌+◌, ◌-◌, ◌*◌, ◌/◌, ◌%◌, List, [], ◌∷◌, map, Bool, not, ◌||◌, length, get_or, take, ltb, leb, eqb, Option, None, Some}
 use Rattle.spec.specs.declared.Kind.TheVariants.{Insert}
 use Rattle.spec.specs.declared.Op.{Op}
-use Rattle.spec.specs.declared.Outcome.{Outcome}
 use Rattle.spec.specs.Basics.{if, each, when, or_else, among, first_of, any_of}
 use Rattle.spec.specs.Bytes.{byte, word, long, parts}
 use Rattle.spec.specs.Job.{op_size}
 use Rattle.spec.specs.Encode.{op_bytes}
 use Rattle.spec.specs.Check.{outside, Fault, numbered}
-use Rattle.spec.specs.Outcome.{outcome_by, buffer_by}
+use Rattle.spec.specs.Outcome.{Outcome, outcome_by, buffer_by}
 use Rattle.spec.specs.SwitchLog.{Logged, logged_size, switch_log, not_whole, broken_log}
 
 -- "A tariff has at most 32 bands of 20 bytes: code (1), free seconds (1), unit in seconds (2, from 1 to 3,600), connection fee (4), and price for
@@ -90,12 +88,12 @@ is_coded bands code = any_of (λ i (b : Band). eqb b.code code) 0 bands
 
 -- the band with this code. (In a tariff no second one has it: claim `Priced.apart`)
 unfoldable pub band_for : List Band → ℕ → Option Band
-band_for bands code = first_of (λ i (b : Band). if (eqb b.code code) (some b) none) 0 bands
+band_for bands code = first_of (λ i (b : Band). if (eqb b.code code) (Some b) None) 0 bands
 
 -- a record's charge, by the band that it names
 unfoldable pub charge_by : Option Band → Logged → ℕ
-charge_by none r = 0
-charge_by (some b) r = charge_in b r
+charge_by None r = 0
+charge_by (Some b) r = charge_in b r
 
 unfoldable pub charge_of : List Band → Logged → ℕ
 charge_of bands r = charge_by (band_for bands r.band) r

@@ -1,6 +1,5 @@
 -- What is claimed of a charge file that is tidied at a depth, and not refused. Definitions only.
-use Rattle.std.specs.Prelude.{ℕ, ◌≤◌, ◌<◌, ◌≡◌, ◌↔◌, List, ◌++◌, length}
-use Rattle.std.proofs.Math.Option.{none}
+use Rattle.std.specs.Prelude.{ℕ, ◌≤◌, ◌<◌, ◌≡◌, ◌↔◌, List, ◌++◌, length, None}
 use Rattle.spec.specs.declared.Rec.{Rec}
 use Rattle.spec.specs.Basics.{Has}
 use Rattle.spec.specs.Bytes.{AreBytes}
@@ -68,4 +67,4 @@ StaysInUse = (j : Job) (t u x : ℕ) → t ≤ u → u ≤ length j.turns → Pa
 
 -- WHAT TIDYING IS TO KEEP, for every charge file, given as its bytes, every depth and every buffer
 abbrev pub Tidies : Type 0
-Tidies = (room d : ℕ) (b : List ℕ) → AreBytes b → tidy_fault room d b ≡ none → Tidied d b
+Tidies = (room d : ℕ) (b : List ℕ) → AreBytes b → tidy_fault room d b ≡ None → Tidied d b

@@ -1,8 +1,6 @@
 -- "Tidying between runs": pages are joined until no pair is left, numbered by their first entry, and written with a directory of the wanted depth.
-use Rattle.std.specs.Prelude.{ℕ, zero, suc, ◌+◌, ◌-◌, ◌*◌, ◌/◌, ◌^◌, ◌≤◌, ◌<◌, ◌≡◌, ◌⊎◌, ◌↔◌, List, [], ◌∷◌, ◌++◌, Bool, not, ◌&&◌, ◌||◌, length, get_or, replicate, eqb, ltb, leb}
-use Rattle.std.proofs.Math.Option.{Option}
+use Rattle.std.specs.Prelude.{ℕ, zero, suc, ◌+◌, ◌-◌, ◌*◌, ◌/◌, ◌^◌, ◌≤◌, ◌<◌, ◌≡◌, ◌⊎◌, ◌↔◌, List, [], ◌∷◌, ◌++◌, Bool, not, ◌&&◌, ◌||◌, length, get_or, replicate, eqb, ltb, leb, Option}
 use Rattle.spec.specs.declared.Rec.{Rec}
-use Rattle.spec.specs.declared.Outcome.{Outcome}
 use Rattle.spec.specs.Basics.{if, when, or_else, any_of, Each, Has}
 use Rattle.spec.specs.File.{Page, File, zero_page, page_at, entry_at, put_in}
 use Rattle.spec.specs.Job.{max_depth, op_count_at}
@@ -10,7 +8,7 @@ use Rattle.spec.specs.Encode.{encode_file}
 use Rattle.spec.specs.Decode.{header_of, file_of}
 use Rattle.spec.specs.Split.{new_owner}
 use Rattle.spec.specs.Check.{Fault, numbered, job_fault}
-use Rattle.spec.specs.Outcome.{outcome_by, buffer_by}
+use Rattle.spec.specs.Outcome.{Outcome, outcome_by, buffer_by}
 
 -- the records of two pages that are joined: those of the second put among those of the first, each in its place, so that calls rise
 unfoldable pub merged : List Rec → List Rec → List Rec

@@ -1,11 +1,10 @@
 -- Tidying by computation: files tidied at several depths, and each refusal with the one that comes before it.
 use Rattle.std.specs.Prelude.{ℕ, ◌≡◌, refl, List, [], ◌∷◌, ◌++◌, map, set, take, drop, replicate}
-use Rattle.spec.specs.declared.Outcome.{Outcome}
-use Rattle.spec.specs.declared.Outcome.TheVariants.{Done, Refused}
 use Rattle.spec.specs.Basics.{each}
 use Rattle.spec.specs.Bytes.{two}
 use Rattle.spec.specs.Tidy.{tidy_outcome, tidy_buffer}
 use Rattle.spec.specs.Worked.{job_c, result_c}
+use Rattle.spec.specs.Outcome.{Outcome, done, refused}
 use Rattle.spec.specs.Opened.{opened}
 
 -- the charge file of (C): depth 2, capacity 2; page 1 (depth 1, pattern 0) empty, page 2 (depth 2, pattern 2) with 3 and 5, page 3 (depth 2, pattern 3) with 1
@@ -79,19 +78,19 @@ row room d b o out = record { asked = record { room = room; depth = d; file = b 
 
 abbrev items : List Item
 items =
-    row 100 0 thin (Done 94) (thin0 ++ replicate 6 7)
-    ∷ row 94 0 thin0 (Done 94) thin0
-    ∷ row 604 8 thin0 (Done 604) thin8
-    ∷ row 120 2 neighbours (Done 120) neighbours
-    ∷ row 100 2 file_c (Done 100) file_c
-    ∷ row 100 2 turned (Done 100) file_c
-    ∷ row 108 3 file_c (Done 108) file_c3
-    ∷ row 107 3 file_c (Refused 11 0) (replicate 107 7)
-    ∷ row 10 1 file_c (Refused 19 0) (replicate 10 7)
-    ∷ row 10 9 thin (Refused 19 0) (replicate 10 7)
-    ∷ row 10 9 job_c (Refused 18 8) (replicate 10 7)
-    ∷ row 10 9 (set job_c 110 1) (Refused 10 110) (replicate 10 7)
-    ∷ row 10 9 (set job_c 0 1) (Refused 2 0) (replicate 10 7)
+    row 100 0 thin (done 94) (thin0 ++ replicate 6 7)
+    ∷ row 94 0 thin0 (done 94) thin0
+    ∷ row 604 8 thin0 (done 604) thin8
+    ∷ row 120 2 neighbours (done 120) neighbours
+    ∷ row 100 2 file_c (done 100) file_c
+    ∷ row 100 2 turned (done 100) file_c
+    ∷ row 108 3 file_c (done 108) file_c3
+    ∷ row 107 3 file_c (refused 11 0) (replicate 107 7)
+    ∷ row 10 1 file_c (refused 19 0) (replicate 10 7)
+    ∷ row 10 9 thin (refused 19 0) (replicate 10 7)
+    ∷ row 10 9 job_c (refused 18 8) (replicate 10 7)
+    ∷ row 10 9 (set job_c 110 1) (refused 10 110) (replicate 10 7)
+    ∷ row 10 9 (set job_c 0 1) (refused 2 0) (replicate 10 7)
     ∷ []
 
 table : map (λ (i : Item). says i.asked) items ≡ map (λ (i : Item). i.paper) items

@@ -1,8 +1,7 @@
 -- "Turns": what the next turn of an operation does, stage by stage.
-use Rattle.std.specs.Prelude.{ℕ, suc, ◌+◌, ◌-◌, ◌^◌, List, [], ◌∷◌, true, false, ◌&&◌, length, get_or, ltb, eqb}
+use Rattle.std.specs.Prelude.{ℕ, suc, ◌+◌, ◌-◌, ◌^◌, List, [], ◌∷◌, true, false, ◌&&◌, length, get_or, ltb, eqb, Option, None, Some, unwrap_or}
 use Rattle.spec.specs.declared.Rec.{Rec}
 use Rattle.spec.specs.declared.Found.{Found}
-use Rattle.spec.specs.declared.Found.TheVariants.{Charge, Missing}
 use Rattle.spec.specs.declared.Op.{Op}
 use Rattle.spec.specs.declared.Kind.{Kind}
 use Rattle.spec.specs.declared.Kind.TheVariants.{Search, Insert, Delete}
@@ -64,9 +63,13 @@ unfoldable pub found_moment : State → Op → ℕ → ℕ
 found_moment s op x = if (eqb (entry_of s.file op) x) s.now (changed_at s.changes (home_of s.file op) x)
 
 -- "read that page (found: finished)". An answer has its page: "the page last read by a search", here and in `reread`
-unfoldable pub looked : State → Op → Found → Move
-looked s op (Missing x) = go (Reread x s.now) same
-looked s op (Charge x v) = go Done (answer found v x (found_moment s op x))
+unfoldable pub looked_at : State → Op → ℕ → Option ℕ → Move
+looked_at s op x None = go (Reread x s.now) same
+looked_at s op x (Some v) = go Done (answer found v x (found_moment s op x))
+
+-- the same, of what looking into the page tells; and so `decided`
+abbrev pub looked : State → Op → Found → Move
+looked s op o = looked_at s op o.page o.charge
 
 -- "read the entry again. The same page number means "none", finished; else read the page now named". "a failed search, its last page reading"
 unfoldable pub reread : State → Op → ℕ → ℕ → Move
@@ -92,19 +95,20 @@ placed s op x p =
 
 -- "(d) read the page and decide". "Where the call is there at another charge, the answer is 9, "differs", with the file's charge". (No search comes
 -- here, nor to `written`.)
-unfoldable pub decided : State → Op → Kind → Found → Move
-decided s op Search (Missing x) = go (Held x Unlock) same
-decided s op Search (Charge x v) = go (Held x Unlock) same
-decided s op Insert (Missing x) = placed s op x (page_at s.file x)
-decided s op Insert (Charge x v) = refused x already_there v s.now
-decided s op Delete (Missing x) = refused x absent 0 s.now
-decided s op Delete (Charge x v) = if (strikes op.charge v) (go (Held x WritePage) same) (refused x differs v s.now)
+unfoldable pub decided_at : State → Op → ℕ → Kind → Option ℕ → Move
+decided_at s op x Search o = go (Held x Unlock) same
+decided_at s op x Insert None = placed s op x (page_at s.file x)
+decided_at s op x Insert (Some v) = refused x already_there v s.now
+decided_at s op x Delete None = refused x absent 0 s.now
+decided_at s op x Delete (Some v) = if (strikes op.charge v) (go (Held x WritePage) same) (refused x differs v s.now)
+
+abbrev pub decided : State → Op → Kind → Found → Move
+decided s op k o = decided_at s op o.page k o.charge
 
 -- the answer of a delete that writes its page, by what it finds there: the call, as on turn (d), since nobody else writes a page that is held; and
--- so its page is "the page read in turn (d)". (`Missing` does not come.)
-unfoldable pub struck : ℕ → Found → Answer
-struck now (Missing x) = answer deleted 0 x now
-struck now (Charge x v) = answer deleted v x now
+-- so its page is "the page read in turn (d)". (That the call is missing does not come.)
+abbrev pub struck : ℕ → Found → Answer
+struck now o = answer deleted (unwrap_or o.charge 0) o.page now
 
 -- "Delete closes the gap"
 unfoldable pub cleared : Page → ℕ → Page

@@ -1,6 +1,10 @@
-// The values that code and definitions share, so that no translation between the two has to be believed.
-// Types only: nothing here runs. What each case and field stands for is said in specs/.
+// The values that code and definitions share, so that no translation between the two has to be believed; and the reasons of refusals, with their
+// numbers. What each case and field stands for is said in specs/.
 #![tactic(auto)]
+
+ghost use Rattle.std.specs.Prelude.{◌≡◌};
+ghost use Rattle.spec.specs.Cases.{reason_number, fault_of, fault_in};
+ghost use Rattle.spec.specs.Check.{numbered};
 
 // "kind (1 search, 2 insert, 3 delete)": the numbers are tied to the cases in specs/Job.antt.
 #[derive(Clone, Copy)]
@@ -59,30 +63,70 @@ pub enum Stage {
     Done,
 }
 
-// What looking for a call in a page comes to: the page's number, and the call's charge there, or that it is missing.
+// What looking for a call in a page comes to: the page's number, and the call's charge there, if it is not missing.
 #[derive(Clone, Copy)]
-pub enum Found {
-    Charge(u16, u32),
-    Missing(u16),
+pub struct Found {
+    pub page: u16,
+    pub charge: Option<u32>,
 }
 
-// The lowest place at which a row of the refusal table holds, or none.
+// Why a call is refused, in the order of the refusals' numbers. 17 and 20 are no call's.
 #[derive(Clone, Copy)]
-pub enum Spot {
-    At(usize),
-    Nowhere,
+pub enum Reason {
+    Short = 1,
+    Version = 2,
+    Limit = 3,
+    Offset = 4,
+    Entry = 5,
+    Page = 6,
+    Owner = 7,
+    Record = 8,
+    Operation = 9,
+    Turn = 10,
+    Output = 11,
+    Pattern = 12,
+    Zero = 13,
+    Band = 14,
+    Charge = 15,
+    Tariff = 16,
+    Present = 18,
+    Depth = 19,
+    Dealt = 21,
 }
 
-// What the check of a job's bytes, or of a page's, comes to: no fault, or number and place of the first.
+// "A refusal gives the number and a place".
 #[derive(Clone, Copy)]
-pub enum Checked {
-    Accepted,
-    Refused(usize, usize),
+pub struct Refusal {
+    pub reason: Reason,
+    pub place: usize,
 }
 
-// What a call comes to: done, with the length of its output; or refused, with number and place.
-#[derive(Clone, Copy)]
-pub enum Outcome {
-    Done(usize),
-    Refused(usize, usize),
+impl Reason {
+    // The number that it is told with.
+    pub fn number(self) -> usize
+        ensures { result ≡ reason_number self }
+    {
+        self as usize
+    }
+
+    // The refusal at a place.
+    pub fn at(self, place: usize) -> Refusal
+        ensures { fault_of result ≡ record { number = reason_number self; place = place } }
+    {
+        Refusal {
+            reason: self,
+            place,
+        }
+    }
+
+    // The answer of a row of the refusal table that was looked for: refused at the lowest place where it holds, if it holds at one.
+    #[tactic(auto, unfolding(crate::specs::Check::numbered))]
+    pub fn refuses(self, place: Option<usize>) -> Result<(), Refusal>
+        ensures { fault_in result ≡ numbered (reason_number self) place }
+    {
+        match place {
+            Some(place) => Err(self.at(place)),
+            None => Ok(()),
+        }
+    }
 }

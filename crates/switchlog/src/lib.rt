@@ -1,72 +1,51 @@
 // The switch's log: records of 16 bytes, read where they stand.
 #![tactic(auto)]
 
-ghost use Rattle.std.specs.Prelude.{◌≡◌, ◌<◌, length, get_or};
-ghost use Rattle.spec.specs.Cases.{spot_of};
-ghost use Rattle.spec.specs.SwitchLog.{logged_size, no_logged, logged_of, switch_log, broken_log};
+ghost use Rattle.std.specs.Prelude.{◌≡◌, ◌<◌, map};
+ghost use Rattle.spec.specs.SwitchLog.{logged_of, switch_log, not_whole};
+ghost use Rattle.switchlog.specs.Read.{logged_in};
 
-use spec::Spot;
+// A record of the log: "call number (4), extension (2), band (1), zero (1), start in seconds from the month's beginning (4), seconds talked (4)".
+#[derive(Clone, Copy)]
+pub struct Logged {
+    pub call: u32,
+    pub extension: u16,
+    pub band: u8,
+    pub spare: u8,
+    pub start: u32,
+    pub talked: u32,
+}
 
-// 1: "for a log that is not whole records, at its length"
-pub fn broken(log: &[u8]) -> Spot
-    ensures { result ≡ spot_of (broken_log log.now) }
-{
-    if log.len() % 16 != 0 {
-        return Spot::At(log.len());
+impl Logged {
+    // "A log record is 16 bytes"
+    pub const SIZE: usize = 16;
+
+    #[tactic(auto, unfolding(spec::specs::SwitchLog::logged_of, spec::specs::Bytes::byte))]
+    pub fn read(bytes: &[u8; Logged::SIZE]) -> Logged
+        ensures { logged_in result ≡ logged_of bytes.now }
+    {
+        Logged {
+            call: wire::u32_at(bytes, 0),
+            extension: wire::u16_at(bytes, 4) as u16,
+            band: bytes[6],
+            spare: bytes[7],
+            start: wire::u32_at(bytes, 8),
+            talked: wire::u32_at(bytes, 12),
+        }
     }
-    Spot::Nowhere
 }
 
-// How many records there are.
-pub fn count(log: &[u8]) -> usize
-    ensures { result ≡ length (switch_log log.now) }
+// The bytes of each record. A log that is not whole records has more behind the last.
+pub fn records(log: &[u8]) -> &[[u8; Logged::SIZE]]
+    ensures { map logged_of result.now ≡ switch_log log.now }
 {
-    log.len() / 16
+    log.as_chunks().0
 }
 
-// The bytes of record i.
-pub fn record(log: &[u8], i: usize) -> &[u8]
-    requires { i < length (switch_log log.now) }
-    ensures { (logged_of result.now ≡ get_or (switch_log log.now) i no_logged) × (length result.now ≡ logged_size) }
+// 1: "for a log that is not whole records, at its length"; for a tariff that is not whole bands likewise
+pub fn not_whole<const SIZE: usize>(bytes: &[u8]) -> Option<usize>
+    requires { 0 < SIZE }
+    ensures { result ≡ not_whole SIZE bytes.now }
 {
-    let at = 16 * i;
-    let end = at + 16;
-    &log[at..end]
-}
-
-// ---- the fields of a record
-
-pub fn call(logged: &[u8]) -> u32
-    requires { length logged.now ≡ logged_size }
-    ensures { result ≡ (logged_of logged.now).call }
-{
-    wire::u32_at(logged, 0)
-}
-
-pub fn band(logged: &[u8]) -> usize
-    requires { length logged.now ≡ logged_size }
-    ensures { (result ≡ (logged_of logged.now).band) × (result < 256) }
-{
-    wire::u8_at(logged, 6)
-}
-
-pub fn spare(logged: &[u8]) -> usize
-    requires { length logged.now ≡ logged_size }
-    ensures { result ≡ (logged_of logged.now).spare }
-{
-    wire::u8_at(logged, 7)
-}
-
-pub fn start(logged: &[u8]) -> u32
-    requires { length logged.now ≡ logged_size }
-    ensures { result ≡ (logged_of logged.now).start }
-{
-    wire::u32_at(logged, 8)
-}
-
-pub fn talked(logged: &[u8]) -> u32
-    requires { length logged.now ≡ logged_size }
-    ensures { result ≡ (logged_of logged.now).talked }
-{
-    wire::u32_at(logged, 12)
+    (bytes.len() % SIZE != 0).then_some(bytes.len())
 }

@@ -1,13 +1,12 @@
 // "The operations under way stand in one lent table, a row each": a lent slice of row structs. A row is taken out, a function over one row does
-// the work, and the row is put back.
+// the work, and the row is put back. (The rows stand beside the operations: C lends the ones, and the job has the others.)
 #![tactic(auto)]
 
 ghost use Rattle.std.specs.Prelude.{◌≡◌, ℕ, ◌+◌, ◌*◌, ◌/◌, ◌≤◌, ◌<◌, length, get_or, replicate};
 ghost use Rattle.spec.specs.Job.{turn_size};
 ghost use Rattle.spec.specs.Check.{work_size};
 ghost use Rattle.turn.specs.Rows.{blank_row};
-ghost use Rattle.turn.specs.Steps.{out};
-ghost use Rattle.table.specs.Turns.{both, moved_on, Moves, turn_on, Takes, run_turns};
+ghost use Rattle.table.specs.Turns.{both, Moves, turn_on, Takes, run_turns};
 ghost use Rattle.table.specs.Told.{told, tell_rows};
 
 use memory::Shape;
@@ -15,39 +14,26 @@ use turn::Row;
 
 // ---- one value for every row
 
-// Every row becomes `row`.
+// Every row becomes `row`. (A function of its own, since the edits `no_row_filled` and `rows_blank_whatever` are of its contract.)
 pub fn fill(rows: &mut [Row], row: Row)
     ensures { rows.new ≡ replicate (length rows.old) row }
 {
-    let mut i: usize = 0;
-    while i < rows.len() {
-        rows[i] = row;
-        i += 1;
-    }
+    rows.fill(row);
 }
 
 // ---- turns
 
-// Turn t of operation i, whose row is handed in and comes back moved on. Most turns of a contended job find their operation waiting, or finished:
+// "One turn is one step of the operation it names": turn t, of operation i. Most turns of a contended job find their operation waiting, or finished:
 // they are told by a look at the row and at one lock.
-fn moved_on(row: Row, ops: &[u8], i: usize, shape: Shape, t: usize, work: &mut [u8]) -> Row
-    requires { Moves shape ops.now t i row work.old }
-    ensures { out result work.new ≡ moved_on shape ops.now t i row work.old }
-{
-    if row.idles(work) {
-        return row;
-    }
-    let op = reader::op_at(ops, i);
-    row.step(shape, op, t as u16, work)
-}
-
-// "One turn is one step of the operation it names": turn t, of operation i.
 pub fn take_turn(rows: &mut [Row], i: usize, ops: &[u8], shape: Shape, t: usize, work: &mut [u8])
     requires { (i < length rows.old) × Moves shape ops.now t i (get_or rows.old i blank_row) work.old }
     ensures { both rows.new work.new ≡ turn_on shape ops.now t i (both rows.old work.old) }
 {
     let row = rows[i];
-    rows[i] = moved_on(row, ops, i, shape, t, work);
+    if !row.idles(work) {
+        let op = reader::op_at(ops, i);
+        rows[i] = row.step(shape, op, t as u16, work);
+    }
 }
 
 // Every turn, in the order of the turn list.
@@ -55,28 +41,22 @@ pub fn turns(rows: &mut [Row], ops: &[u8], list: &[u8], shape: Shape, work: &mut
     requires { (k : ℕ) → k < length list.now / turn_size → Takes shape ops.now list.now k (run_turns shape ops.now list.now k (both rows.old work.old)) }
     ensures { both rows.new work.new ≡ run_turns shape ops.now list.now (length list.now / turn_size) (both rows.old work.old) }
 {
-    let n = reader::turn_count(list);
-    let mut t: usize = 0;
-    while t < n {
+    for t in 0..reader::turn_count(list) {
         let i = reader::turn_at(list, t);
         take_turn(rows, i, ops, shape, t, work);
-        t += 1;
     }
 }
 
 // ---- answers
 
-// The first m operations are told; and how many of them are begun but unfinished.
+// The first m operations are told; and how many of them are begun but unfinished. (C lends more rows than there are operations, so m goes beside them.)
 pub fn tell_rows(rows: &[Row], m: usize, res: &mut [u8], work: &mut [u8]) -> usize
     requires { (m ≤ length rows.now) × (m ≤ 256) × (24 + 8 * m ≤ length res.old) × (work_size ≤ length work.old) }
     ensures { told res.new work.new result ≡ tell_rows rows.now m (told res.old work.old 0) }
 {
-    let mut under: usize = 0;
-    let mut i: usize = 0;
-    while i < m {
-        let row = rows[i];
-        under += result::tell(row, i, res, work);
-        i += 1;
+    let mut under = 0;
+    for i in 0..m {
+        under += usize::from(result::tell(rows[i], i, res, work));
     }
     under
 }

@@ -1,119 +1,129 @@
 -- An index that is filled band by band: the empty one, one band more, and what is read from it.
-use Prim.Native.Nat.{ℕ, suc, ◌+◌, ◌≤◌, ◌<◌}
-use mathlib.Core.Path.{◌≡◌, refl, sym, ◌∙◌}
-use mathlib.Core.List.{List, []}
-use mathlib.Core.Bool.{Bool, true, false}
-use mathlib.Core.Option.{Option, none, none-ne-some}
-use native.Mathlib.Omega.{arith}
-use native.Mathlib.Numerals.{add-one}
-use lib.ListN.{length, get_or, take, set, replicate, length-replicate, get_or-replicate, length-set}
-use lib.Seq.{length-take-le, get_or-take, get_or-set_same, get_or-set_other}
-use lib.Dec.{ltb, eqb}
-use borrow.Author.Tests.{lt-ltb, le-ltb, eqb-true, eqb-false, eq-eqb}
-use Rattle.spec.specs.declared.Spot.TheVariants.{At}
-use Rattle.spec.specs.Basics.{if, or_else, any_of}
-use Rattle.spec.specs.Cases.{spot_of}
+use Rattle.std.proofs.Math.Logic.Iff
+use Rattle.std.specs.Prelude.{ℕ, suc, ◌+◌, ◌<◌, ◌≡◌, refl, ◌↔◌, List, [], ◌∷◌, Bool, true, false, ◌||◌, length, get_or, take, eqb, Option, None, Some}
+use Rattle.std.proofs.Common.{sym, ap, ◌∙◌, true≢false, arith, add-one, length-take-le, take-suc, eqb-true, set, replicate}
+use Rattle.std.proofs.lemmas.List.{get_or-replicate, get_or-set_same, get_or-set_other}
+use Rattle.std.proofs.lemmas.Bool.{eqb-false}
+use Rattle.std.proofs.lemmas.Option.{none-some, same_Some}
+use Rattle.std.specs.Option.{is_some}
+use Rattle.spec.specs.Basics.{if, when, or_else, first_of}
 use Rattle.spec.specs.Check.{outside}
-use Rattle.spec.specs.Tariff.{Band, no_band, min_unit, max_unit, is_coded, bad_band}
-use Rattle.laws.specs.Codec.Tools.{or_no}
-use Rattle.laws.specs.Codec.Answer.{spot_some}
-use Rattle.laws.specs.Tariff.{coded_band, coded_snoc, band_snoc}
-use Rattle.tariff.specs.Index.{no_number, Says, Indexed}
+use Rattle.spec.specs.Tariff.{Band, no_band, min_unit, max_unit, is_coded, band_for, bad_band}
+use Rattle.laws.specs.Codec.Tools.{failed, or_no, or_else_end}
+use Rattle.laws.specs.Codec.Walk.{first-none, first_snoc, any_none}
+use Rattle.laws.specs.Tariff.{coded_band}
+use Rattle.tariff.specs.Index.{number_for, Indexed}
 
 -- before the first band no code has one
-pub index-none : Indexed [] (replicate 256 no_number)
-unfolding is_coded any_of
-index-none =
-    record {
-      size = length-replicate 256 no_number;
-      says = λ code l. record { nobody = λ n. refl; found = λ h. absurd (h (get_or-replicate 256 code no_number 0 l)) };
-    }
+pub index-none : Indexed [] (replicate 256 None)
+unfolding number_for first_of
+index-none code l = get_or-replicate 256 code None None l
 
 -- where a place is told, nothing is asked of the index
-pub told : {X : Type 0} (o : Option ℕ) (p : ℕ) → At p ≡ spot_of o → (At p ≡ spot_of o) × (o ≡ none → X)
-told o p e = (e, λ z. absurd (none-ne-some _ (sym z ∙ spot_some o p e)))
+pub told_first : {X : Type 0} {o : Option ℕ} {p : ℕ} → Some p ≡ o → (Some p ≡ o) × (o ≡ None → X)
+told_first e = (e, λ z. absurd (none-some _ (sym z ∙ sym e)))
 
--- a number at a code: some band has it
-pub index-found : (bands : List Band) (code n : ℕ) → Says bands code n → (n ≡ no_number → ⊥) → is_coded bands code ≡ true
-index-found bands code n s h = by (is_coded bands code) refl
+-- a code has no number exactly if no band has it
+number_none : (bands : List Band) (code : ℕ) → number_for bands code ≡ None ↔ is_coded bands code ≡ false
+unfolding number_for is_coded
+number_none bands code = simp (any_none (λ i (b : Band). eqb b.code code) bands no_band, first-none (λ i (b : Band). when (eqb b.code code) i) bands no_band, failed) Iff.rfl
+
+pub number_there : (bands : List Band) (code : ℕ) → is_some (number_for bands code) ≡ is_coded bands code
+number_there bands code = by (number_for bands code) (is_coded bands code) refl refl
   where
-    by : (t : Bool) → is_coded bands code ≡ t → is_coded bands code ≡ true
-    by true e = e
-    by false e = absurd (none-ne-some _ (sym ((coded_band bands code).0 e) ∙ (s.found h).1))
+    by : (o : Option ℕ) (t : Bool) → number_for bands code ≡ o → is_coded bands code ≡ t → is_some o ≡ t
+    by None true e f = absurd (true≢false (sym f ∙ (number_none bands code).0 e))
+    by None false e f = refl
+    by (Some k) true e f = refl
+    by (Some k) false e f = absurd (none-some _ (sym ((number_none bands code).1 f) ∙ e))
 
--- what the code's tests make of band b: an index of the bands before it has n at its code
-module _ (bands : List Band) (i : ℕ) (b : Band) (code n : ℕ) (e : code ≡ b.code) (s : Says (take i bands) code n) where
-  pub bad_code : (n ≡ no_number → ⊥) → true ≡ bad_band bands i b
-  unfolding bad_band
-  bad_code h = rw (← e, index-found _ _ _ s h)
+-- what the code's tests make of band b, which it reads as a: o is its code's number in an index of the bands before it
+pub bad_by_number
+    : (bands : List Band) (i : ℕ) {a b : Band} {o : Option ℕ}
+    → a ≡ b
+    → o ≡ number_for (take i bands) a.code
+    → (is_some o || outside min_unit max_unit a.unit) ≡ bad_band bands i b
+unfolding bad_band
+bad_by_number bands i {a = a} e f = rw (← e, f, number_there (take i bands) a.code)
 
-  module _ (h : n ≡ no_number) (u : ℕ) (f : u ≡ b.unit) where
-    pub bad_low : u < min_unit → true ≡ bad_band bands i b
-    unfolding bad_band outside
-    bad_low l = rw (← e, s.nobody h, ← f, lt-ltb u min_unit l)
+-- the band with a number is the one that is taken for the code
+pub record Numbered (bands : List Band) (code k : ℕ) : Type 0 where
+  pub within : k < length bands
+  pub band : band_for bands code ≡ Some (get_or bands k no_band)
 
-    pub bad_high : min_unit ≤ u → ltb max_unit u ≡ bad_band bands i b
-    unfolding bad_band outside
-    bad_high l = rw (← e, s.nobody h, ← f, le-ltb u min_unit l)
+module _ (code : ℕ) where
+  record From (i : ℕ) (bands : List Band) (k : ℕ) : Type 0 where
+    place : ℕ
+    is : k ≡ i + place
+    within : place < length bands
+    band : first_of (λ j (b : Band). if (eqb b.code code) (Some b) None) i bands ≡ Some (get_or bands place no_band)
+
+  from : (i : ℕ) (bands : List Band) (k : ℕ) → first_of (λ j (b : Band). when (eqb b.code code) j) i bands ≡ Some k → From i bands k
+  unfolding first_of or_else when if
+  from i [] k e = absurd (none-some _ e)
+  from i (x ∷ xs) k e = by (eqb x.code code) refl e (from (suc i) xs k)
+    where
+      by
+          : (t : Bool)
+          → eqb x.code code ≡ t
+          → or_else (when t i) (first_of (λ j (b : Band). when (eqb b.code code) j) (suc i) xs) ≡ Some k
+          → (first_of (λ j (b : Band). when (eqb b.code code) j) (suc i) xs ≡ Some k → From (suc i) xs k)
+          → From i (x ∷ xs) k
+      by true q h later = let w = same_Some i k h in record { place = 0; is = omega arith; within = omega arith; band = rw q }
+      by false q h later =
+          let r = later h in
+          record { place = suc r.place; is = omega arith; within = omega arith; band = rw q r.band }
+
+number_found : (bands : List Band) (code k : ℕ) → number_for bands code ≡ Some k → Numbered bands code k
+unfolding number_for band_for
+number_found bands code k e =
+    let r = from code 0 bands k e in
+    let same : k ≡ r.place = omega arith in
+    record { within = omega arith; band = rw same r.band }
+
+-- what an index has at a code: no number, or that of the band that is taken for it
+module _ (bands : List Band) (s : List (Option ℕ)) (index : Indexed bands s) (code : ℕ) (l : code < 256) where
+  pub indexed_nobody : get_or s code None ≡ None → band_for bands code ≡ None
+  indexed_nobody e = (coded_band bands code).0 ((number_none bands code).0 (sym (index code l) ∙ e))
+
+  pub indexed_band : (k : ℕ) → get_or s code None ≡ Some k → Numbered bands code k
+  indexed_band k e = number_found bands code k (sym (index code l) ∙ e)
 
 -- one band more, with a code that no earlier band has: its number is put at its code, and what stands at other codes stays
 module _ (bands : List Band) (i : ℕ) (l : i < length bands) where
   abbrev b : Band
   b = get_or bands i no_band
 
-  -- the bands with it
-  few : length (take (suc i) bands) ≡ suc i
-  few = length-take-le (suc i) bands (omega arith)
+  snoc : (code : ℕ) → number_for (take (suc i) bands) code ≡ or_else (number_for (take i bands) code) (when (eqb b.code code) i)
+  unfolding number_for
+  snoc code =
+      rw (take-suc bands i no_band)
+      (first_snoc (λ j (a : Band). when (eqb a.code code) j) 0 (take i bands) b
+      ∙ ap (λ n. or_else (number_for (take i bands) code) (when (eqb b.code code) n)) (omega (arith, length-take-le i bands (omega arith))))
 
-  same : (n : ℕ) → n < suc i → get_or (take (suc i) bands) n no_band ≡ get_or bands n no_band
-  same n u = get_or-take (suc i) bands n no_band u
-
-  -- at its code
-  says_own : i < no_number → is_coded (take i bands) b.code ≡ false → Says (take (suc i) bands) b.code i
-  unfolding if or_else
-  says_own u e =
-      record {
-        nobody = λ z. absurd (omega arith);
-        found = λ z. (rw few (omega arith), rw (band_snoc bands i b.code l, (coded_band _ _).0 e, eq-eqb b.code _ refl, same i (omega arith)));
-      }
-
-  -- at another code
-  says_other : (code n : ℕ) → eqb b.code code ≡ false → Says (take i bands) code n → Says (take (suc i) bands) code n
-  unfolding if or_else
-  says_other code n d s =
-      record {
-        nobody = λ z. rw (coded_snoc bands i code l, d, s.nobody z);
-        found =
-            λ z.
-            let w : n < i = rw (length-take-le i bands (omega arith)) at (s.found z).0 in (
-              rw few (omega arith),
-              rw (band_snoc bands i code l, (s.found z).1, get_or-take i bands n no_band w, same n (omega arith)),
-            );
-      }
-
-  index-more
-      : (s : List ℕ)
-      → i < no_number
+  more
+      : (s : List (Option ℕ))
+      → length s ≡ 256
       → is_coded (take i bands) b.code ≡ false
-      → b.code < 256
       → Indexed (take i bands) s
-      → Indexed (take (suc i) bands) (set s b.code i)
-  index-more s u e c h = record { size = rw length-set h.size; says = λ code v. by code v (eqb b.code code) refl }
+      → Indexed (take (suc i) bands) (set s b.code (Some i))
+  unfolding or_else when
+  more s n e h code v = rw (snoc code) (by (eqb b.code code) refl)
     where
-      by : (code : ℕ) → code < 256 → (t : Bool) → eqb b.code code ≡ t → Says (take (suc i) bands) code (get_or (set s b.code i) code 0)
-      by code v true q =
-          rw (← eqb-true b.code code q, get_or-set_same s b.code i 0 (rw h.size c)) (says_own u e)
-      by code v false q =
-          rw (get_or-set_other s b.code code i 0 (λ z. eqb-false b.code code q (sym z))) (says_other code _ q (h.says code v))
+      by : (t : Bool) → eqb b.code code ≡ t → get_or (set s b.code (Some i)) code None ≡ or_else (number_for (take i bands) code) (when t i)
+      by true q =
+          let w : b.code ≡ code = eqb-true b.code code q in
+          rw (sym w, get_or-set_same s b.code (Some i) None (omega arith), (number_none (take i bands) b.code).1 e)
+      by false q =
+          rw (get_or-set_other s b.code code (Some i) None (λ z. eqb-false b.code code q (sym z)), h code v) (sym (or_else_end _))
 
-  -- as the loop has it: band i is not bad, and its code was read
+  -- as the loop has it: band i is not bad, and it is read as a
   pub index-next
-      : (s : List ℕ) (code : ℕ)
-      → i < no_number
+      : {a : Band} (s : List (Option ℕ))
+      → length s ≡ 256
+      → a ≡ b
       → bad_band bands i b ≡ false
-      → code ≡ b.code
-      → code < 256
       → Indexed (take i bands) s
-      → Indexed (take (i + 1) bands) (set s code i)
+      → Indexed (take (i + 1) bands) (set s a.code (Some i))
   unfolding bad_band
-  index-next s code u f e v h = rw (add-one, e) (index-more s u ((or_no _ _).0 f).0 (rw (← e) v) h)
+  index-next s n e f h = rw (add-one, e) (more s n ((or_no _ _).0 f).0 h)

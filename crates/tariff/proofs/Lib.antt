@@ -1,7 +1,7 @@
 -- No contract cites these files.
 -- an index that is filled band by band
 pub mod Filled
--- the refusals at a record, by what an index says of its band
+-- the refusals at a record
 pub mod Refusals
 -- the inserts, written one behind another
 pub mod Bytes

@@ -1,64 +1,59 @@
--- A record's band as an index has it, and the refusals at a record by what the code finds.
-use Prim.Native.Nat.{ℕ, ◌<◌, ◌≤◌}
-use mathlib.Core.Path.{◌≡◌, sym, subst, ◌∙◌}
-use mathlib.Core.List.{List}
-use mathlib.Core.Bool.{true, false, true≢false}
-use mathlib.Core.Option.{some}
-use lib.ListN.{length, get_or}
-use borrow.Author.Tests.{lt-ltb, le-ltb, eq-eqb, ne_eqb}
-use Rattle.spec.specs.declared.Checked.TheVariants.{Accepted, Refused}
+-- The refusals at a record by what the code finds, and its charge.
+use Rattle.std.specs.Prelude.{ℕ, ◌<◌, ◌≤◌, ◌*◌, ◌≡◌, refl, List, Bool, true, false, length, get_or, None, Some, Result, Ok, Err, IsOk}
+use Rattle.std.proofs.Common.{sym, ◌∙◌, lt-ltb, le-ltb, eq-eqb, ne_eqb}
+use Rattle.std.proofs.lemmas.Option.{none-some}
 use Rattle.spec.specs.Basics.{when, or_else}
 use Rattle.spec.specs.Check.{numbered}
-use Rattle.spec.specs.Cases.{checked_of}
-use Rattle.spec.specs.SwitchLog.{Logged}
-use Rattle.spec.specs.Tariff.{Band, no_band, bands_of, is_coded, band_for, charge_in, charge_by, charge_of, max_charge, logged_fault}
-use Rattle.tariff.specs.Index.{no_number, Says, Known}
-use Rattle.tariff.proofs.Filled.{index-found}
+use Rattle.spec.specs.declared.Reason.{Reason}
+use Rattle.spec.specs.SwitchLog.{Logged, logged_size, no_logged, switch_log}
+use Rattle.spec.specs.Tariff.{Band, is_coded, band_for, charge_in, charge_by, charge_of, max_charge, logged_fault, bands_of, wrong_logged}
+use Rattle.laws.specs.Codec.Walk.{first-none}
+use Rattle.laws.specs.Tariff.{coded_band}
+use Rattle.tariff.specs.Call.{fault_at}
 
--- what the index s says of a code
-module _ {t s : List ℕ} {n code : ℕ} (k : Known t s) (e : n ≡ code) (l : n < 256) where
-  says : Says (bands_of t) code (get_or s n 0)
-  says = subst (λ (m : ℕ). Says (bands_of t) m (get_or s n 0)) e (k.index.says n l)
+-- a band that is taken for a code has it
+coded : (bands : List Band) (code : ℕ) (b : Band) → band_for bands code ≡ Some b → is_coded bands code ≡ true
+coded bands code b e = by (is_coded bands code) refl
+  where
+    by : (t : Bool) → is_coded bands code ≡ t → is_coded bands code ≡ true
+    by true f = f
+    by false f = absurd (none-some _ (sym ((coded_band bands code).0 f) ∙ e))
 
-  pub nobody : get_or s n 0 ≡ no_number → is_coded (bands_of t) code ≡ false
-  nobody = says.nobody
-
-  -- where it says a number, a band has the code
-  pub somebody : (get_or s n 0 ≡ no_number → ⊥) → is_coded (bands_of t) code ≡ true
-  somebody = index-found (bands_of t) code (get_or s n 0) says
-
-  -- and where a band has it, the number is that of the band that is taken for it
-  pub numbered-band
-      : is_coded (bands_of t) code ≡ true
-      → (get_or s n 0 < length (bands_of t)) × (band_for (bands_of t) code ≡ some (get_or (bands_of t) (get_or s n 0) no_band))
-  numbered-band h = says.found (λ z. true≢false (sym h ∙ nobody z))
-
-pub charge-found : (bands : List Band) (b : Band) (r : Logged) → band_for bands r.band ≡ some b → charge_of bands r ≡ charge_in b r
+pub charge-found : (bands : List Band) (b : Band) (r : Logged) → band_for bands r.band ≡ Some b → charge_of bands r ≡ charge_in b r
 unfolding charge_of charge_by
 charge-found bands b r e = rw e
 
 -- 9, 14, 15: record r at place p
 module _ (bands : List Band) (p : ℕ) (r : Logged) where
-  pub refuse_spare : (r.spare ≡ 0 → ⊥) → Refused 9 p ≡ checked_of (logged_fault bands p r)
-  unfolding logged_fault or_else numbered when checked_of
+  pub refuse_spare : (r.spare ≡ 0 → ⊥) → Some (record { number = 9; place = p }) ≡ logged_fault bands p r
+  unfolding logged_fault or_else numbered when
   refuse_spare h = rw (ne_eqb r.spare 0 h)
 
-  pub refuse_band : r.spare ≡ 0 → is_coded bands r.band ≡ false → Refused 14 p ≡ checked_of (logged_fault bands p r)
-  unfolding logged_fault or_else numbered when checked_of
-  refuse_band z n = rw (eq-eqb r.spare 0 z, n)
+  pub refuse_band : r.spare ≡ 0 → band_for bands r.band ≡ None → Some (record { number = 14; place = p }) ≡ logged_fault bands p r
+  unfolding logged_fault or_else numbered when
+  refuse_band z n = rw (eq-eqb r.spare 0 z, (coded_band bands r.band).1 n)
 
-  pub refuse_charge
-      : r.spare ≡ 0
-      → is_coded bands r.band ≡ true
-      → max_charge < charge_of bands r
-      → Refused 15 p ≡ checked_of (logged_fault bands p r)
-  unfolding logged_fault or_else numbered when checked_of
-  refuse_charge z y u = rw (eq-eqb r.spare 0 z, y, lt-ltb max_charge (charge_of bands r) u)
+  module _ (b : Band) (z : r.spare ≡ 0) (e : band_for bands r.band ≡ Some b) where
+    pub refuse_charge : max_charge < charge_in b r → Some (record { number = 15; place = p }) ≡ logged_fault bands p r
+    unfolding logged_fault or_else numbered when
+    refuse_charge u = rw (eq-eqb r.spare 0 z, coded bands r.band b e, charge-found bands b r e, lt-ltb max_charge (charge_in b r) u)
 
-  pub refuse_none
-      : r.spare ≡ 0
-      → is_coded bands r.band ≡ true
-      → charge_of bands r ≤ max_charge
-      → Accepted ≡ checked_of (logged_fault bands p r)
-  unfolding logged_fault or_else numbered when checked_of
-  refuse_none z y u = rw (eq-eqb r.spare 0 z, y, le-ltb max_charge (charge_of bands r) u)
+    pub refuse_none : charge_in b r ≤ max_charge → None ≡ logged_fault bands p r
+    unfolding logged_fault or_else numbered when
+    refuse_none u = rw (eq-eqb r.spare 0 z, coded bands r.band b e, charge-found bands b r e, le-ltb max_charge (charge_in b r) u)
+
+passed : {A : Type 0} (place : ℕ) (o : Result A Reason) → fault_at place o ≡ None → IsOk o
+passed place (Ok x) h = refl
+passed place (Err x) h = absurd (none-some _ (sym h))
+
+-- where no record is refused, what is answered of record i, read as r, is its charge
+pub record_passed
+    : {A : Type 0} (t l : List ℕ) (i : ℕ) (o : Result A Reason) {r : Logged}
+    → wrong_logged t l ≡ None
+    → i < length (switch_log l)
+    → r ≡ get_or (switch_log l) i no_logged
+    → fault_at (logged_size * i) o ≡ logged_fault (bands_of t) (logged_size * i) r
+    → IsOk o
+unfolding wrong_logged
+record_passed t l i o e u read f =
+    passed _ o (rw read at f ∙ (first-none (λ k. logged_fault (bands_of t) (logged_size * k)) (switch_log l) no_logged).0 e i u)

@@ -1,55 +1,43 @@
 // The records of a log by their bands: the refusals at a record, and its charge.
-ghost use Rattle.std.specs.Prelude.{◌≡◌, true, length};
-ghost use Rattle.spec.specs.Cases.{checked_of};
-ghost use Rattle.spec.specs.SwitchLog.{logged_size, logged_of};
-ghost use Rattle.spec.specs.Tariff.{bands_of, is_coded, charge_of, logged_fault, wrong_logged};
-ghost use Rattle.tariff.specs.Index.{Known};
+ghost use Rattle.std.specs.Prelude.{◌≡◌, ℕ, IfOk};
+ghost use Rattle.spec.specs.Cases.{fault_in};
+ghost use Rattle.spec.specs.Tariff.{bands_of, charge_of, logged_fault, wrong_logged};
+ghost use Rattle.switchlog.specs.Read.{logged_in};
+ghost use Rattle.tariff.specs.Call.{fault_at};
 
-use crate::bands;
-use spec::Checked;
+use crate::bands::Bands;
+use spec::{Reason, Refusal};
+use switchlog::Logged;
 
-// The largest charge that an operation's four bytes hold.
-const MOST_CHARGE: usize = 4294967295;
+// The largest charge that an operation's four bytes hold. (A limit with a name, no `u32::try_from`: it is the document's, "charge above 2^32 − 1".)
+const MOST_CHARGE: usize = u32::MAX as usize;
 
-// The charge of a record whose band is there.
-pub fn charge(tariff: &[u8], index: &[u8], logged: &[u8]) -> usize
-    requires { Known tariff.now index.now × (length logged.now ≡ logged_size) × (is_coded (bands_of tariff.now) (logged_of logged.now).band ≡ true) }
-    ensures { result ≡ charge_of (bands_of tariff.now) (logged_of logged.now) }
-{
-    let k = index[switchlog::band(logged)] as usize;
-    band::charge(bands::band(tariff, k), logged)
-}
-
-// "at that record, 9 for the zero byte, 14 (no such band), 15 (charge above 2^32 − 1)"
-fn refusal(tariff: &[u8], index: &[u8], logged: &[u8], place: usize) -> Checked
-    requires { Known tariff.now index.now × (length logged.now ≡ logged_size) }
-    ensures { result ≡ checked_of (logged_fault (bands_of tariff.now) place (logged_of logged.now)) }
-{
-    if switchlog::spare(logged) != 0 {
-        return Checked::Refused(9, place);
-    }
-    if index[switchlog::band(logged)] == bands::NO_NUMBER {
-        return Checked::Refused(14, place);
-    }
-    if MOST_CHARGE < charge(tariff, index, logged) {
-        return Checked::Refused(15, place);
-    }
-    Checked::Accepted
-}
-
-// "then record by record"
-pub fn wrong_logged(tariff: &[u8], index: &[u8], log: &[u8]) -> Checked
-    requires { Known tariff.now index.now }
-    ensures { result ≡ checked_of (wrong_logged tariff.now log.now) }
-{
-    let n = switchlog::count(log);
-    let mut i: usize = 0;
-    while i < n {
-        let c = refusal(tariff, index, switchlog::record(log, i), 16 * i);
-        if let Checked::Refused(number, place) = c {
-            return Checked::Refused(number, place);
+impl Bands<'_> {
+    // "9 for the zero byte, 14 (no such band), 15 (charge above 2^32 − 1)"; and otherwise the record's charge
+    pub fn charge(&self, logged: Logged) -> Result<u32, Reason>
+        ensures fault { (place : ℕ) → fault_at place result ≡ logged_fault (bands_of self.now.tariff.now) place (logged_in logged) }
+        ensures charge { IfOk result (λ x. x ≡ charge_of (bands_of self.now.tariff.now) (logged_in logged)) }
+    {
+        if logged.spare != 0 {
+            return Err(Reason::Operation);
         }
-        i += 1;
+        let band = self.with_code(logged.band).ok_or(Reason::Band)?;
+        let charge = band.charge(logged);
+        if MOST_CHARGE < charge {
+            return Err(Reason::Charge);
+        }
+        Ok(charge as u32)
     }
-    Checked::Accepted
+}
+
+// "then record by record, at that record"
+pub fn wrong_logged(bands: &Bands, log: &[u8]) -> Result<(), Refusal>
+    ensures { fault_in result ≡ wrong_logged bands.now.tariff.now log.now }
+{
+    for (i, bytes) in switchlog::records(log).iter().enumerate() {
+        if let Err(reason) = bands.charge(Logged::read(bytes)) {
+            return Err(reason.at(Logged::SIZE * i));
+        }
+    }
+    Ok(())
 }

@@ -1,3 +1,5 @@
+-- what the contracts cite
+pub mod Added
 -- laws for callers' proofs
-pub mod Chain
+pub mod AddedLaws
 pub mod Sections

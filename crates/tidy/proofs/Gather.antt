@@ -1,16 +1,16 @@
 -- Records put among others, one after another: those of a page, and those of the pages along the directory.
 use mathlib.Core.Path.{◌≡◌, refl, sym, ap, ◌∙◌}
 use mathlib.Core.List.{List, [], ◌++◌, append_assoc, append-nil}
-use Prim.Native.Nat.{ℕ, zero, suc, ◌+◌, ◌-◌, ◌*◌, ◌/◌, ◌%◌, ◌^◌, ◌≤◌, ◌<◌}
+use Prim.Native.Nat.{ℕ, zero, suc, ◌+◌, ◌-◌, ◌/◌, ◌^◌, ◌≤◌, ◌<◌}
 use native.Mathlib.Nat.{zero-add}
 use native.Mathlib.Numerals.{add-one}
 use native.Mathlib.Omega.{arith}
-use lib.Pow.{pow_pos, pow_mono}
-use lib.ListN.{length, take, drop, length-append}
-use lib.Seq.{take_all}
+use lib.Pow.{pow_pos}
+use lib.ListN.{length, length-append}
 use Rattle.spec.specs.declared.Rec.{Rec}
 use Rattle.spec.specs.Basics.{each, Each, end}
 use Rattle.spec.specs.Bytes.{AreBytes, byte}
+use Rattle.laws.specs.Codec.AsBytes.{are_bytes}
 use Rattle.spec.specs.File.{Page, File, page_at, entry_at, put_in}
 use Rattle.spec.specs.Job.{page_size, table_offset}
 use Rattle.spec.specs.Encode.{record_bytes, page_bytes}
@@ -27,7 +27,7 @@ use Rattle.laws.specs.Tidy.Merged.{merged-length, merged_each, merged-nil, merge
 use Rattle.laws.specs.Tidy.Entries.{page_on, gathered, page_from}
 use Rattle.laws.specs.Tidy.Gathered.{gathered_step, gathered_end, own_from}
 use Rattle.wire.specs.Over.{over}
-use Rattle.wire.specs.OverLaws.{over_none, over_whole, over_again, length_over}
+use Rattle.wire.specs.OverLaws.{over_none, over_again, length_over}
 use Rattle.header.specs.declared.Header.{Header}
 use Rattle.page.specs.View.{record_at, records_from, records-none, records_snoc, records-length}
 use Rattle.page.specs.Room.{room, room-size}
@@ -35,7 +35,7 @@ use Rattle.page.specs.Image.{closed}
 use Rattle.page.specs.ImageLaws.{owns, closed_image}
 use Rattle.page.specs.KeepLaws.{records-fit, records_back}
 use Rattle.tidy.specs.Given.{Given, Shows}
-use Rattle.tidy.proofs.Known.{shown_depth, count_shown, run_of, depth_is}
+use Rattle.tidy.proofs.Known.{ok, count_shown, depth_is}
 
 -- ---- the records of a page, put among the first n of another
 
@@ -132,15 +132,6 @@ module _ {f : File} {from to : ℕ} {s t : List ℕ} {n j : ℕ} (g : Gathers f 
 
 -- ---- the steps of the code
 
--- a step is of 1 to 256 entries, and so many there are
-pub run_range : {h : Header} {b : List ℕ} → Given h b → (d : ℕ) → (1 ≤ 1 * 2 ^ (h.depth - d) % 2 ^ 64) × (1 * 2 ^ (h.depth - d) % 2 ^ 64 ≤ 256)
-run_range {h} e d =
-    let run = run_of (h.depth - d) (omega (arith, e.heads.limits.depth)) in
-    (omega (arith, run.is, pow_pos (h.depth - d)), omega (arith, run.is, run.few))
-
-pub entries-most : {h : Header} {b : List ℕ} → Given h b → 2 ^ h.depth ≤ 256
-entries-most e = pow_mono e.heads.limits.depth
-
 -- p are the bytes of the page that entry j names
 module _ {h : Header} {b : List ℕ} (e : Given h b) {from to : ℕ} {s t : List ℕ} {n j : ℕ} (g : Gathers (file_of b) from to s t n j) (l : j < to)
     {p : List ℕ} (there : Shows h (page_on (file_of b) j) p) where
@@ -151,35 +142,27 @@ module _ {h : Header} {b : List ℕ} (e : Given h b) {from to : ℕ} {s t : List
   pub step_room : length s ≡ page_size h.capacity → length (gathered (file_of b) from to) ≤ h.capacity → page_size (n + byte p 1) ≤ length t
   step_room u v = omega (arith, gathers_length g, gathers_few g l, same)
 
-  pub step-deep : (d : ℕ) → d ≡ (page_of p).depth → d ≤ h.depth
-  step-deep d deep = omega (arith, shown_depth p, there.deep)
-
   -- and the walk goes on
   pub step-more
-      : (u : List ℕ) (m d : ℕ)
+      : (u : List ℕ) (m r : ℕ)
       → page_size n ≤ length s
       → u ≡ over t 4 (each record_bytes (merged (records_from t 0 n) (page_of p).records))
       → m ≡ n + length (page_of p).records
-      → d ≡ (page_of p).depth
-      → Gathers (file_of b) from to s u m (j + 1 * 2 ^ (h.depth - d) % 2 ^ 64)
+      → r ≡ 2 ^ (h.depth - (page_of p).depth)
+      → Gathers (file_of b) from to s u m (j + r)
   unfolding page_on
-  step-more u m d room written many deep =
-      let run = run_of (h.depth - d) (omega (arith, e.heads.limits.depth)) in
-      rw (written, many, run.is, deep, there.is, ← depth_is e)
-      (gathers_more g l (page-records-fit b (entry_at (file_of b) j) e.bytes) room)
+  step-more u m r room written many run =
+      rw (written, many, run, there.is, ← depth_is e) (gathers_more g l (page-records-fit b (entry_at (file_of b) j) (are_bytes b e.bytes)) room)
 
 -- ---- the page of depth l whose first entry is j
-module _ {h : Header} {b : List ℕ} (e : Given h b) (j l : ℕ) where
+module _ {h : Header} {b : List ℕ} (e : Given h b) (j l run : ℕ) (is : run ≡ 2 ^ (h.depth - l)) where
   -- its entries' records, and the page
   abbrev pub under : List Rec
-  under = gathered (file_of b) j (j + 1 * 2 ^ (h.depth - l) % 2 ^ 64)
+  under = gathered (file_of b) j (j + run)
 
-  from-under : page_from (file_of b) j l ≡ record { depth = l; pattern = j / 2 ^ (h.depth - l); records = merged [] under }
+  from-under : page_from (file_of b) j l ≡ record { depth = l; pattern = j / run; records = merged [] under }
   unfolding page_from
-  from-under = rw ((run_of (h.depth - l) (omega (arith, e.heads.limits.depth))).is, depth_is e)
-
-  pub under_range : j + 2 ^ (h.depth - l) ≤ 2 ^ h.depth → j + 1 * 2 ^ (h.depth - l) % 2 ^ 64 ≤ 2 ^ h.depth
-  under_range k = omega (arith, (run_of (h.depth - l) (omega (arith, e.heads.limits.depth))).is)
+  from-under = rw (is, depth_is e)
 
   pub under-few : length (page_from (file_of b) j l).records ≤ h.capacity → length under ≤ h.capacity
   under-few k = omega (arith, ap (λ (q : Page). length q.records) from-under, merged-length [] under)
@@ -190,26 +173,21 @@ module _ {h : Header} {b : List ℕ} (e : Given h b) (j l : ℕ) where
       → length (page_from (file_of b) j l).records ≤ h.capacity
       → n ≡ length under
       → t ≡ over s 4 (each record_bytes (merged [] under))
-      → closed t l n (j / 2 ^ (h.depth - l)) ≡ page_bytes h.capacity (page_from (file_of b) j l)
+      → closed t l n (j / run) ≡ page_bytes h.capacity (page_from (file_of b) j l)
   under_closed s t n size few many written =
       let r : room (length s) ≡ h.capacity = rw size (room-size h.capacity) in
       let image =
-      closed_image s (merged [] under) l n (j / 2 ^ (h.depth - l)) (rw r size) (omega (arith, many, merged-length [] under)) (omega (arith, r, under-few few, many)) in
+      closed_image s (merged [] under) l n (j / run) (rw r size) (omega (arith, many, merged-length [] under)) (omega (arith, r, under-few few, many)) in
       rw (written, from-under) (rw r at image)
 
+-- the file's own page
+module _ {h : Header} {b : List ℕ} (e : Given h b) (j l : ℕ) where
   -- entry j is an entry
   pub under_first : j + 2 ^ (h.depth - l) ≤ 2 ^ h.depth → j < 2 ^ h.depth
   under_first k = omega (arith, pow_pos (h.depth - l))
 
-  -- the file's own, of bytes p, copied over s
-  pub under_own
-      : {p : List ℕ} (s : List ℕ)
-      → j < 2 ^ h.depth
-      → Shows h (page_on (file_of b) j) p
-      → (page_of p).depth ≡ l
-      → length s ≡ page_size h.capacity
-      → over s 0 (take (length s) (drop 0 p)) ≡ page_bytes h.capacity (page_from (file_of b) j l)
-  under_own {p} s k there deep size =
-      let n : length s ≡ length p = size ∙ sym there.size in
-      let own : page_from (file_of b) j l ≡ page_on (file_of b) j = rw (← deep, there.is) (own_from (file_of b) e.ok j (rw (depth_is e) k)) in
-      rw (take_all (length s) p (omega arith), own, there.written) (over_whole p s (sym n))
+  -- the file's own, of bytes p
+  pub under_own : {p : List ℕ} → j < 2 ^ h.depth → Shows h (page_on (file_of b) j) p → (page_of p).depth ≡ l → p ≡ page_bytes h.capacity (page_from (file_of b) j l)
+  under_own {p} k there deep =
+      let own : page_from (file_of b) j l ≡ page_on (file_of b) j = rw (← deep, there.is) (own_from (file_of b) (ok e) j (rw (depth_is e) k)) in
+      rw (own, there.written)

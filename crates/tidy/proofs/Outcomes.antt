@@ -2,10 +2,10 @@
 use Prim.Native.Nat.{ℕ}
 use mathlib.Core.Path.{◌≡◌}
 use mathlib.Core.List.{List}
-use mathlib.Core.Option.{Option, none, some}
+use Rattle.std.specs.Prelude.{Option, None, Some}
 use lib.ListN.{length}
 use borrow.Author.Tests.{eq-eqb, ne_eqb}
-use Rattle.spec.specs.declared.Outcome.{Outcome}
+use Rattle.spec.specs.Outcome.{Outcome}
 use Rattle.spec.specs.Basics.{when, or_else}
 use Rattle.spec.specs.Bytes.{AreBytes}
 use Rattle.spec.specs.Decode.{header_of, file_of}
@@ -13,23 +13,19 @@ use Rattle.spec.specs.Check.{Fault, numbered, job_fault}
 use Rattle.spec.specs.Tidy.{tidy_bytes, ops_present, tidy_fault, tidy_outcome, tidy_buffer}
 use Rattle.laws.specs.Codec.Accepted.{file_ok}
 use Rattle.laws.specs.Tidy.Bytes.{joined, tidied}
-use Rattle.header.specs.declared.Header.{Header}
-use Rattle.header.specs.Counts.{counts_of}
-use Rattle.header.specs.Accepted.{accepted_heads}
 use Rattle.wire.specs.Comes.{Comes}
-use Rattle.tidy.specs.Given.{Given}
 use Rattle.tidy.specs.Call.{Settled, output_fault, file_fault}
 
 -- 18, or what is behind it
-ops_there : (b : List ℕ) → ((header_of b).ops ≡ 0 → ⊥) → ops_present b ≡ some 8
+ops_there : (b : List ℕ) → ((header_of b).ops ≡ 0 → ⊥) → ops_present b ≡ Some 8
 unfolding ops_present when
 ops_there b n = rw (ne_eqb (header_of b).ops 0 n)
 
-ops-none : (b : List ℕ) → (header_of b).ops ≡ 0 → ops_present b ≡ none
+ops-none : (b : List ℕ) → (header_of b).ops ≡ 0 → ops_present b ≡ None
 unfolding ops_present when
 ops-none b e = rw (eq-eqb (header_of b).ops 0 e)
 
-pub by_ops : (room d : ℕ) (b : List ℕ) → ((header_of b).ops ≡ 0 → ⊥) → file_fault room d b ≡ some (record { number = 18; place = 8 })
+pub by_ops : (room d : ℕ) (b : List ℕ) → ((header_of b).ops ≡ 0 → ⊥) → file_fault room d b ≡ Some (record { number = 18; place = 8 })
 unfolding or_else numbered
 by_ops room d b n = rw (ops_there b n)
 
@@ -38,17 +34,13 @@ unfolding or_else numbered
 by_output room d b e = rw (ops-none b e)
 
 -- the file's own refusals come first
-pub by_file : (room d : ℕ) (b : List ℕ) → job_fault b ≡ none → tidy_fault room d b ≡ file_fault room d b
+pub by_file : (room d : ℕ) (b : List ℕ) → job_fault b ≡ None → tidy_fault room d b ≡ file_fault room d b
 unfolding tidy_fault or_else
 by_file room d b e = rw e
 
-pub by_job : (room d : ℕ) (b : List ℕ) (f : Fault) → job_fault b ≡ some f → tidy_fault room d b ≡ some f
+pub by_job : (room d : ℕ) (b : List ℕ) (f : Fault) → job_fault b ≡ Some f → tidy_fault room d b ≡ Some f
 unfolding tidy_fault or_else
 by_job room d b f e = rw e
-
--- an accepted file, with its header
-pub given : (h : Header) (b : List ℕ) → AreBytes b → job_fault b ≡ none → counts_of h ≡ header_of b → Given h b
-given h b bytes e c = record { bytes = bytes; accepted = e; heads = accepted_heads h b e c; ok = file_ok b e }
 
 -- THE CALL
 pub settled

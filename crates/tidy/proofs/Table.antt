@@ -2,7 +2,7 @@
 use mathlib.Core.Path.{◌≡◌, sym, ap, ◌∙◌}
 use mathlib.Core.List.{List, ◌++◌, map}
 use Prim.Native.Nat.{ℕ, zero, suc, ◌+◌, ◌-◌, ◌*◌, ◌^◌, ◌≤◌, ◌<◌}
-use native.Mathlib.Nat.{mul-le-mul, mul-le-mul_left}
+use native.Mathlib.Nat.{mul-le-mul_left}
 use native.Mathlib.Numerals.{add-one}
 use native.Mathlib.Omega.{arith}
 use lib.ListN.{length, get_or, take, drop, replicate, length-append, length-map, length-replicate, replicate-append-replicate, get_or-map}
@@ -30,7 +30,7 @@ use Rattle.wire.specs.OverLaws.{over_none, over-over, over_whole}
 use Rattle.wire.specs.Parts.{length_part, over_part}
 use Rattle.header.specs.declared.Header.{Header}
 use Rattle.tidy.specs.Given.{Given, Fills}
-use Rattle.tidy.proofs.Known.{depth_is, capacity_is, pages_is}
+use Rattle.tidy.proofs.Known.{ok, depth_is, capacity_is, pages_is}
 
 -- ---- numbers of 2 bytes
 
@@ -108,9 +108,6 @@ place_end s k n h = mul-le-mul_left s h
 place-next : (s k n : ℕ) → k < n → s * k + s ≤ s * n
 place-next s k n h = let z : s * k + s ≡ s * (k + 1) = omega arith in rw z (place_end s (k + 1) n (omega arith))
 
-table-short : (s n : ℕ) → s ≤ 68 → n ≤ 256 → s * n ≤ 17408
-table-short s n a b = mul-le-mul a b
-
 -- ---- what is known of the pages left
 
 module _ {h : Header} {b : List ℕ} (o : Given h b) (left : List ℕ) (known : left ≡ depths_left (file_of b) 0) where
@@ -118,7 +115,7 @@ module _ {h : Header} {b : List ℕ} (o : Given h b) (left : List ℕ) (known : 
   ps = pages_left (file_of b)
 
   depths : left ≡ map (λ (q : Page). q.depth) ps
-  depths = known ∙ depths_left_lem (file_of b) o.ok
+  depths = known ∙ depths_left_lem (file_of b) (ok o)
 
   pub as_many : length left ≡ length ps
   as_many = ap length depths ∙ length-map ps (λ (q : Page). q.depth)
@@ -127,17 +124,17 @@ module _ {h : Header} {b : List ℕ} (o : Given h b) (left : List ℕ) (known : 
   depth_at k = rw depths (get_or-map (λ (q : Page). q.depth) ps k zero_page)
 
   enough : length ps ≤ h.pages
-  enough = omega (arith, left_few (file_of b) o.ok, o.ok.fit.within, pages_is o)
+  enough = omega (arith, left_few (file_of b) (ok o), (ok o).fit.within, pages_is o)
 
   shallow : Each (λ q. q.depth ≤ h.depth) ps
-  shallow = each_imp (λ q r. omega (arith, r.ok.deep, depth_is o)) (left_right (file_of b) o.ok)
+  shallow = each_imp (λ q r. omega (arith, r.ok.deep, depth_is o)) (left_right (file_of b) (ok o))
 
   pub small : Each (λ q. length q.records ≤ h.capacity) ps
-  small = each_imp (λ q r. omega (arith, r.ok.room, capacity_is o)) (left_right (file_of b) o.ok)
+  small = each_imp (λ q r. omega (arith, r.ok.room, capacity_is o)) (left_right (file_of b) (ok o))
 
   -- they have the whole of a directory that is deep enough
   tiles : Tiles 0 0 ps
-  tiles = left_tiles (pages_left_lem (file_of b) o.ok)
+  tiles = left_tiles (pages_left_lem (file_of b) (ok o))
 
   pub fills : (d : ℕ) → Each (λ q. q.depth ≤ d) ps → Fills d left
   fills d w =
@@ -158,24 +155,21 @@ module _ {h : Header} {b : List ℕ} (o : Given h b) (left : List ℕ) (known : 
     pub many : length left ≡ length ps
     pub fewer : k ≤ h.pages
     pub whole : length table ≡ s * h.pages
-    pub short : s * h.pages ≤ 17408
     pub stop : s * k ≤ s * h.pages
     pub next : k < length left → s * k + s ≤ s * h.pages
 
   pub sizes
       : (s k : ℕ) (table : List ℕ)
       → s ≡ page_size h.capacity
-      → s ≤ 68
       → length table ≡ page_size h.capacity * h.pages
       → k ≤ length left
       → Sizes s k table
-  sizes s k table e l w u =
+  sizes s k table e w u =
       let few : k ≤ h.pages = omega (arith, as_many, enough) in
       record {
         many = as_many;
         fewer = few;
         whole = rw e w;
-        short = table-short s h.pages l o.heads.limits.pages.1;
         stop = place_end s k h.pages few;
         next = λ v. place-next s k h.pages (omega (arith, as_many, enough));
       }
@@ -185,7 +179,7 @@ module _ {h : Header} {b : List ℕ} (o : Given h b) (left : List ℕ) (known : 
   page_here k j l e =
       let l' : k < length ps = omega (arith, as_many) in
       let at = tiles_start h.depth ps tiles shallow k l' in
-      rw (depth_at k, e, depths, at, ← depth_is o) (left_page_lem (file_of b) o.ok k l')
+      rw (depth_at k, e, depths, at, ← depth_is o) (left_page_lem (file_of b) (ok o) k l')
 
 -- ---- the first k pages are written
 

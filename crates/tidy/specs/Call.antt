@@ -1,7 +1,6 @@
 -- What a call of `tidy` comes to.
-use Rattle.std.specs.Prelude.{ℕ, ◌≡◌, List, length}
-use Rattle.std.proofs.Math.Option.{Option, none}
-use Rattle.spec.specs.declared.Outcome.{Outcome}
+use Rattle.std.specs.Prelude.{ℕ, ◌≡◌, List, length, Option, None}
+use Rattle.spec.specs.Outcome.{Outcome}
 use Rattle.spec.specs.Basics.{or_else}
 use Rattle.spec.specs.Decode.{file_of}
 use Rattle.spec.specs.Check.{Fault, numbered, job_fault}
@@ -14,8 +13,8 @@ use Rattle.spec.specs.Tidied.{Joined, Tidied}
 pub record Settled (b : List ℕ) (d : ℕ) (s t : List ℕ) (r : Outcome) : Type 0 where
   pub answer : r ≡ tidy_outcome (length s) d b
   pub output : t ≡ tidy_buffer d b s
-  pub joined : job_fault b ≡ none → Joined (file_of b)
-  pub tidied : tidy_fault (length s) d b ≡ none → Tidied d b
+  pub joined : job_fault b ≡ None → Joined (file_of b)
+  pub tidied : tidy_fault (length s) d b ≡ None → Tidied d b
 
 -- what is refused of an accepted file: 19 and 11; and before them 18
 abbrev pub output_fault : ℕ → ℕ → List ℕ → Option Fault

@@ -1,3 +1,4 @@
 -- what the contracts cite
 pub mod Given
+pub mod Charge
 pub mod Call

@@ -2,108 +2,82 @@
 // depth. Nothing is written before all refusals are decided, and no memory is lent but the output.
 #![tactic(auto)]
 
+mod before;
 mod directory;
+mod file;
 mod left;
 mod pages;
 
-ghost use Rattle.std.specs.Prelude.{◌≡◌, List, ℕ, ◌≤◌, length};
-ghost use Rattle.spec.specs.Decode.{file_of};
-ghost use Rattle.spec.specs.Cases.{checked_of};
+ghost use Rattle.std.specs.Prelude.{◌≡◌, ◌≤◌, length};
+ghost use Rattle.spec.specs.Cases.{told, fault_in};
 ghost use Rattle.spec.specs.Tidy.{tidy_bytes};
 ghost use Rattle.laws.specs.Tidy.Wanted.{Wanted};
-ghost use Rattle.laws.specs.Codec.Rows.{Limits};
-ghost use Rattle.laws.specs.Tidy.Entries.{depths_left};
-ghost use Rattle.header.specs.Counts.{counts_of};
 ghost use Rattle.header.specs.File.{file_size};
 ghost use Rattle.wire.specs.Over.{over};
 ghost use Rattle.wire.specs.Comes.{Comes};
-ghost use Rattle.tidy.specs.Given.{Given, any_deeper};
+ghost use Rattle.tidy.specs.Charge.{bytes_in, file_in};
 ghost use Rattle.tidy.specs.Call.{Settled, output_fault, file_fault};
 
+use crate::file::ChargeFile;
+use crate::left::Left;
 use header::Header;
-use spec::{Checked, Outcome};
+use spec::{Reason, Refusal};
 
-// ---- what is refused of an accepted file
-
-// A page left is deeper than the wanted depth.
-fn is_deeper(left: &[u8], depth: usize) -> bool
-    ensures { result ≡ any_deeper depth left.now }
-{
-    let mut k: usize = 0;
-    while k < left.len() {
-        if depth < left[k] as usize {
-            return true;
+impl Left<'_> {
+    // 19 "wanted depth above 8 or below the depth of a page left after joining", then 11, "an output under the tidied file's length".
+    fn wrong_output(&self, depth: usize, room: usize) -> Result<(), Refusal>
+        ensures { fault_in result ≡ output_fault room depth (bytes_in self.now.file) }
+    {
+        if Header::MAX_DEPTH < depth || self.depths().iter().any(|&l| depth < l as usize) {
+            return Err(Reason::Depth.at(0));
         }
-        k += 1;
+        let h = self.file.reader.header;
+        if room < Header::file_length(depth, h.capacity, h.pages) {
+            return Err(Reason::Output.at(0));
+        }
+        Ok(())
     }
-    false
-}
 
-// 19 "wanted depth above 8 or below the depth of a page left after joining", then 11, "an output under the tidied file's length". The pages left
-// have these depths.
-fn wrong_output(h: Header, left: &[u8], depth: usize, room: usize) -> Checked
-    requires { Limits (counts_of h) }
-    ensures { (b : List ℕ) → Given h b → left.now ≡ depths_left (file_of b) 0 → result ≡ checked_of (output_fault room depth b) }
-{
-    if Header::MAX_DEPTH < depth {
-        return Checked::Refused(19, 0);
+    // The tidied file: header, directory and pages; and their length.
+    fn write(&self, depth: usize, out: &mut [u8]) -> usize
+        requires wanted { Wanted depth (file_in self.now.file) }
+        requires room { file_size depth self.now.file.reader.header.capacity self.now.file.reader.header.pages ≤ length out.old }
+        ensures size { result ≡ length (tidy_bytes depth (bytes_in self.now.file)) }
+        ensures output { out.new ≡ over out.old 0 (tidy_bytes depth (bytes_in self.now.file)) }
+    {
+        let h = self.file.reader.header;
+        let left = self.depths();
+        let table = Header::SIZE + 2 * Header::entries_at(depth);
+        let end = Header::file_length(depth, h.capacity, h.pages);
+        Header::put_file(out, 0, depth, h.capacity, h.pages, left.len());
+        directory::put_directory(&mut out[Header::SIZE..table], depth, left);
+        self.put_pages(&mut out[table..end]);
+        end
     }
-    if is_deeper(left, depth) {
-        return Checked::Refused(19, 0);
-    }
-    if room < Header::file_length(depth, h.capacity, h.pages) {
-        return Checked::Refused(11, 0);
-    }
-    Checked::Accepted
-}
 
-// ---- the tidied file
-
-// Header, directory and pages; and their length.
-fn write(file: &[u8], h: Header, left: &[u8], depth: usize, out: &mut [u8]) -> usize
-    requires { Given h file.now × (left.now ≡ depths_left (file_of file.now) 0) × Wanted depth (file_of file.now) × (file_size depth h.capacity h.pages ≤ length out.old) }
-    ensures { (result ≡ length (tidy_bytes depth file.now)) × (out.new ≡ over out.old 0 (tidy_bytes depth file.now)) }
-{
-    let table = Header::SIZE + 2 * Header::entries_at(depth);
-    let end = Header::file_length(depth, h.capacity, h.pages);
-    Header::put_file(out, 0, depth, h.capacity, h.pages, left.len());
-    directory::put_directory(&mut out[Header::SIZE..table], depth, left);
-    pages::put_pages(file, h, left, &mut out[table..end]);
-    end
-}
-
-// An accepted file without operations, whose pages left have these depths.
-fn tidy_left(file: &[u8], h: Header, left: &[u8], depth: usize, out: &mut [u8]) -> Outcome
-    requires { Given h file.now × (left.now ≡ depths_left (file_of file.now) 0) }
-    ensures { Comes (output_fault (length out.old) depth file.now) (tidy_bytes depth file.now) out.old out.new result }
-{
-    let c = wrong_output(h, left, depth, out.len());
-    if let Checked::Refused(number, place) = c {
-        return Outcome::Refused(number, place);
+    // The tidied file, or what is refused of it.
+    fn try_write(&self, depth: usize, out: &mut [u8]) -> Result<usize, Refusal>
+        ensures { Comes (output_fault (length out.old) depth (bytes_in self.now.file)) (tidy_bytes depth (bytes_in self.now.file)) out.old out.new (told result) }
+    {
+        self.wrong_output(depth, out.len())?;
+        Ok(self.write(depth, out))
     }
-    Outcome::Done(write(file, h, left, depth, out))
 }
 
 // An accepted file. 18: "operations present, at their count".
-fn tidy_file(file: &[u8], h: Header, depth: usize, out: &mut [u8]) -> Outcome
-    requires { Given h file.now }
-    ensures { Comes (file_fault (length out.old) depth file.now) (tidy_bytes depth file.now) out.old out.new result }
+fn tidy_file(file: ChargeFile<'_>, depth: usize, out: &mut [u8]) -> Result<usize, Refusal>
+    ensures { Comes (file_fault (length out.old) depth (bytes_in file.entry)) (tidy_bytes depth (bytes_in file.entry)) out.old out.new (told result) }
 {
-    if h.ops != 0 {
-        return Outcome::Refused(18, 8);
+    if file.reader.header.ops != 0 {
+        return Err(Reason::Present.at(8));
     }
-    let mut left = [0u8; 256];
-    let used = left::find(file, h, &mut left);
-    tidy_left(file, h, &left[..used], depth, out)
+    Left::find(file).try_write(depth, out)
 }
 
 // THE CALL: any bytes, any wanted depth, and any lent output.
-pub fn tidy(file: &[u8], depth: usize, out: &mut [u8]) -> Outcome
-    ensures { Settled file.now depth out.old out.new result }
+pub fn tidy(file: &[u8], depth: usize, out: &mut [u8]) -> Result<usize, Refusal>
+    ensures { Settled file.now depth out.old out.new (told result) }
 {
-    let c = job::check(file);
-    if let Checked::Refused(number, place) = c {
-        return Outcome::Refused(number, place);
-    }
-    tidy_file(file, Header::read(file), depth, out)
+    let reader = job::check(file)?;
+    tidy_file(ChargeFile { reader }, depth, out)
 }

@@ -1,5 +1,4 @@
 pub mod LastOne
-pub mod Tests
-pub mod Founds
+pub mod Choices
 pub mod Plans
 pub mod Pieces

@@ -42,44 +42,45 @@ behind_most : (g d p : ℕ) → d ≤ g → p < 2 ^ d → (p + 1) * 2 ^ (g - d) 
 unfolding end_of
 behind_most g d p h k = end_le g (record { depth = d; pattern = p; records = [] }) h k
 
--- q is what the splits for the insert leave in page x
-abbrev pub OldPiece : Shape → Op → List ℕ → ℕ → Piece → Type 0
-OldPiece sh op w x q =
-    q ≡ kept_piece (split_count (page_in sh.capacity w x) op.call) (page_in sh.capacity w x).depth op.call
-
--- the numbers of such a piece, whose entries end within a directory of g bits
-pub record Small (g : ℕ) (q : Piece) : Type 0 where
-  pub depth : q.depth ≤ g
+-- the piece q that the splits for the insert leave in page x, whose entries end within a directory of 8 bits
+pub record Left (sh : Shape) (op : Op) (w : List ℕ) (x : ℕ) (q : Piece) : Type 0 where
+  pub depth : q.depth ≤ sh.depth
   pub pattern : q.pattern < 256
-  pub behind : (q.pattern + 1) * 2 ^ (g - q.depth) ≤ 256
-
-bounded_small : (g : ℕ) (q : Piece) → g ≤ 8 → Bounded g q → Small g q
-bounded_small g q h b =
-    let deep : q.depth ≤ 8 = omega (arith, b.depth) in
-    let most : 2 ^ q.depth ≤ 2 ^ 8 = pow_mono deep in
-    let all : 2 ^ g ≤ 2 ^ 8 = pow_mono h in
-    record {
-      depth = b.depth;
-      pattern = omega (arith, b.pattern);
-      behind = omega (arith, behind_most g q.depth q.pattern b.depth b.pattern);
-    }
+  pub ends : (q.pattern + 1) * 2 ^ (sh.depth - q.depth) ≤ 256
+  pub first : (q.pattern + 1) * 2 ^ (sh.depth - q.depth) ≡ behind sh.depth (plan sh op w x).old
 
 module _ {sh : Shape} {op : Op} {w : List ℕ} {x : ℕ} (o : Planned sh op w x) where
-  pub old_end : sh.depth ≤ 8 → (q : Piece) → OldPiece sh op w x q → Small sh.depth q
-  old_end h q e =
-      let p = page_in sh.capacity w x in
-      let b = kept_bounded (split_count p op.call) p.depth op.call (omega (arith, plan_end o)) in
-      bounded_small sh.depth q h (rw e (record { depth = omega (arith, b.depth, plan_end o); pattern = b.pattern }))
+  abbrev n : ℕ
+  n = split_count (page_in sh.capacity w x) op.call
 
-  plan_old
-      : (plan sh op w x).old
-      ≡ cut (page_in sh.capacity w x) (rec_of op) (kept_piece (split_count (page_in sh.capacity w x) op.call) (page_in sh.capacity w x).depth op.call)
+  abbrev d : ℕ
+  d = (page_in sh.capacity w x).depth
+
+  plan_old : (plan sh op w x).old ≡ cut (page_in sh.capacity w x) (rec_of op) (kept_piece n d op.call)
   unfolding plan
   plan_old = grow-old o.splits sh.depth (omega (arith, o.within))
 
-  pub behind_old
-      : (q : Piece)
-      → OldPiece sh op w x q
-      → (q.pattern + 1) * 2 ^ (sh.depth - q.depth) ≡ behind sh.depth (plan sh op w x).old
+  left_own : sh.depth ≤ 8 → Left sh op w x (kept_piece n d op.call)
   unfolding behind cut
-  behind_old q e = rw (plan_old, e)
+  left_own h =
+      let q = kept_piece n d op.call in
+      let b = kept_bounded n d op.call (omega (arith, plan_end o)) in
+      let deep : q.depth ≤ sh.depth = omega (arith, b.depth, plan_end o) in
+      let few : q.depth ≤ 8 = omega arith in
+      let most : 2 ^ q.depth ≤ 2 ^ 8 = pow_mono few in
+      let all : 2 ^ sh.depth ≤ 2 ^ 8 = pow_mono h in
+      record {
+        depth = deep;
+        pattern = omega (arith, b.pattern);
+        ends = omega (arith, behind_most sh.depth q.depth q.pattern deep b.pattern);
+        first = rw plan_old;
+      }
+
+  pub left_piece
+      : {m e : ℕ} {q : Piece}
+      → sh.depth ≤ 8
+      → m ≡ n
+      → e ≡ d
+      → q ≡ kept_piece m e op.call
+      → Left sh op w x q
+  left_piece h count deep made = rw (made, count, deep) (left_own h)

@@ -8,7 +8,10 @@ use Rattle.spec.specs.declared.Stage.{Stage}
 use Rattle.spec.specs.declared.Stage.TheVariants.{NotBegun, ReadPage, Reread, Lock, Held, Split, Done}
 use Rattle.spec.specs.Basics.{if}
 use Rattle.spec.specs.State.{Row as State-Row}
+use Rattle.spec.specs.Code.{found, not_found, stored, already_there, deleted, absent, no_depth, no_page, differs}
 use Rattle.turn.specs.declared.Row.{Row}
+use Rattle.turn.specs.declared.codes.Code.{Code}
+use Rattle.turn.specs.declared.codes.Code.TheVariants.{Found, NotFound, Stored, AlreadyThere, Deleted, Absent, NoDepth, NoPage, Differs}
 
 -- "the page number less one": a page number in a byte. Pages count from 1 to 256, and no page, which is 0, is 0; with the remainder every
 -- number has one.
@@ -112,3 +115,15 @@ answered r code charge told moment =
       count = r.count;
       next = r.next;
     }
+
+-- the number of an answer's code
+abbrev pub code_number : Code → ℕ
+code_number Found = found
+code_number NotFound = not_found
+code_number Stored = stored
+code_number AlreadyThere = already_there
+code_number Deleted = deleted
+code_number Absent = absent
+code_number NoDepth = no_depth
+code_number NoPage = no_page
+code_number Differs = differs

@@ -1,6 +1,5 @@
 -- What the code of a turn asks, in numbers alone: what it adds fits, and what it reads and writes lies in the memory.
-use Rattle.std.specs.Prelude.{ℕ, ◌+◌, ◌≤◌, ◌<◌, ◌≡◌, List, length}
-use Rattle.std.proofs.Math.Option.{some}
+use Rattle.std.specs.Prelude.{ℕ, ◌+◌, ◌≤◌, ◌<◌, ◌≡◌, List, length, Some}
 use Rattle.spec.specs.declared.Rec.{Rec}
 use Rattle.spec.specs.declared.Op.{Op}
 use Rattle.spec.specs.declared.Kind.{Kind}
@@ -42,7 +41,7 @@ Kept sh op w x = (named sh op w ≡ x → ⊥) → (page_in sh.capacity w x).dep
 -- a search reads page x: it may find its call there though its entry no longer names that page
 pub record Reading (sh : Shape) (op : Op) (w : List ℕ) (x : ℕ) : Type 0 where
   pub page : Readable sh w x
-  pub stale : (c : Rec) → look_in (page_in sh.capacity w x).records op.call ≡ some c → Kept sh op w x
+  pub stale : (c : Rec) → look_in (page_in sh.capacity w x).records op.call ≡ Some c → Kept sh op w x
 
 -- page x is full, and splits make room in it for the insert, within the global depth
 pub record Planned (sh : Shape) (op : Op) (w : List ℕ) (x : ℕ) : Type 0 where

@@ -1,8 +1,7 @@
 -- One turn of an operation in memory: its row of numbers, and the working memory through what is read of it. `Sim` shows that it is the
 -- machine's turn; here what takes the machine a walk over the directory or the history is one look-up or a few steps.
-use Rattle.std.specs.Prelude.{ℕ, suc, ◌+◌, ◌-◌, ◌*◌, ◌^◌, List, Bool, true, false, not, ltb, leb, eqb, get_or, length}
+use Rattle.std.specs.Prelude.{ℕ, suc, ◌+◌, ◌-◌, ◌*◌, ◌^◌, List, Bool, true, false, not, ltb, leb, eqb, get_or, length, Option, None, Some, unwrap_or}
 use Rattle.spec.specs.declared.Found.{Found}
-use Rattle.spec.specs.declared.Found.TheVariants.{Charge, Missing}
 use Rattle.spec.specs.declared.Op.{Op}
 use Rattle.spec.specs.declared.Kind.{Kind}
 use Rattle.spec.specs.declared.Kind.TheVariants.{Search, Insert, Delete}
@@ -49,9 +48,12 @@ unfoldable pub found_at : Shape → Op → ℕ → List ℕ → ℕ → ℕ
 found_at sh op t w x =
     if (eqb (named sh op w) x) t (turn_in w (home sh op) (page_in sh.capacity w x).depth)
 
-unfoldable pub mem_looked : Shape → Op → ℕ → Row → List ℕ → Found → Out
-mem_looked sh op t r w (Missing x) = out (moved r (Reread x t)) w
-mem_looked sh op t r w (Charge x v) = out (answered (moved r Done) found v x (found_at sh op t w x)) w
+unfoldable pub mem_looked_at : Shape → Op → ℕ → Row → List ℕ → ℕ → Option ℕ → Out
+mem_looked_at sh op t r w x None = out (moved r (Reread x t)) w
+mem_looked_at sh op t r w x (Some v) = out (answered (moved r Done) found v x (found_at sh op t w x)) w
+
+abbrev pub mem_looked : Shape → Op → ℕ → Row → List ℕ → Found → Out
+mem_looked sh op t r w o = mem_looked_at sh op t r w o.page o.charge
 
 unfoldable pub mem_reread : Shape → Op → Row → List ℕ → ℕ → ℕ → Out
 mem_reread sh op r w x u =
@@ -91,18 +93,19 @@ mem_placed sh op t r w x p =
 unfoldable pub mem_at_charge : ℕ → ℕ → Row → ℕ → ℕ → Row
 mem_at_charge asked t r x held = if (strikes asked held) (moved r (Held x WritePage)) (settled r x differs held t)
 
-unfoldable pub mem_decided : Shape → Op → ℕ → Row → List ℕ → Kind → Found → Out
-mem_decided sh op t r w Search (Missing x) = out (moved r (Held x Unlock)) w
-mem_decided sh op t r w Search (Charge x v) = out (moved r (Held x Unlock)) w
-mem_decided sh op t r w Insert (Missing x) = mem_placed sh op t r w x (page_in sh.capacity w x)
-mem_decided sh op t r w Insert (Charge x v) = mem_refused t r w x already_there v
-mem_decided sh op t r w Delete (Missing x) = mem_refused t r w x absent 0
-mem_decided sh op t r w Delete (Charge x v) = out (mem_at_charge op.charge t r x v) w
+unfoldable pub mem_decided_at : Shape → Op → ℕ → Row → List ℕ → ℕ → Kind → Option ℕ → Out
+mem_decided_at sh op t r w x Search o = out (moved r (Held x Unlock)) w
+mem_decided_at sh op t r w x Insert None = mem_placed sh op t r w x (page_in sh.capacity w x)
+mem_decided_at sh op t r w x Insert (Some v) = mem_refused t r w x already_there v
+mem_decided_at sh op t r w x Delete None = mem_refused t r w x absent 0
+mem_decided_at sh op t r w x Delete (Some v) = out (mem_at_charge op.charge t r x v) w
+
+abbrev pub mem_decided : Shape → Op → ℕ → Row → List ℕ → Kind → Found → Out
+mem_decided sh op t r w k o = mem_decided_at sh op t r w o.page k o.charge
 
 -- the row of a delete that writes its page, by what it finds there
-unfoldable pub mem_struck : ℕ → Row → Found → Row
-mem_struck t r (Missing x) = settled r x deleted 0 t
-mem_struck t r (Charge x v) = settled r x deleted v t
+abbrev pub mem_struck : ℕ → Row → Found → Row
+mem_struck t r o = settled r o.page deleted (unwrap_or o.charge 0) t
 
 unfoldable pub mem_written : Shape → Op → ℕ → Row → List ℕ → ℕ → Kind → Page → Out
 mem_written sh op t r w x Search p = out (moved r (Held x Unlock)) w

@@ -1,18 +1,13 @@
 // The codes of answers.
-pub const FOUND: u8 = 1;
-
-pub const NOT_FOUND: u8 = 2;
-
-pub const STORED: u8 = 3;
-
-pub const ALREADY_THERE: u8 = 4;
-
-pub const DELETED: u8 = 5;
-
-pub const ABSENT: u8 = 6;
-
-pub const NO_DEPTH: u8 = 7;
-
-pub const NO_PAGE: u8 = 8;
-
-pub const DIFFERS: u8 = 9;
+#[derive(Clone, Copy)]
+pub enum Code {
+    Found = 1,
+    NotFound = 2,
+    Stored = 3,
+    AlreadyThere = 4,
+    Deleted = 5,
+    Absent = 6,
+    NoDepth = 7,
+    NoPage = 8,
+    Differs = 9,
+}

@@ -1,18 +1,21 @@
 // Directory entries: a call's own entry, the entries behind a page, and the new page that an entry goes to.
 ghost use Rattle.std.specs.Prelude.{◌≡◌, ◌+◌, ◌-◌, ◌*◌, ◌^◌, ◌≤◌, ◌<◌};
-ghost use Rattle.spec.specs.Basics.{if};
 ghost use Rattle.turn.specs.Steps.{home, entry_bit, last_one};
 
-use memory::Shape;
-use spec::Op;
+use crate::Turn;
 
-// The call's own entry.
-pub fn home(shape: Shape, op: Op) -> usize
-    requires { shape.depth ≤ 8 }
-    ensures { (result ≡ home shape op) × (result < 256) }
-{
-    key::index(op.call, shape.depth)
+impl Turn {
+    // The call's own entry.
+    #[tactic(auto, unfolding(crate::specs::Steps::home))]
+    pub(crate) fn home(self) -> usize
+        requires { self.shape.depth ≤ 8 }
+        ensures { (result ≡ home self.shape self.op) × (result < 256) }
+    {
+        key::index(self.op.call, self.shape.depth)
+    }
 }
+
+// (Functions of plain numbers, as in the definitions, so each asks for the limit of the depth g itself.)
 
 // The entry behind the last one that a pattern of `depth` bits begins.
 pub fn behind(g: usize, depth: usize, pattern: usize) -> usize
@@ -23,6 +26,7 @@ pub fn behind(g: usize, depth: usize, pattern: usize) -> usize
 }
 
 // Bit number d, from the top and from 0, of entry e, which has g bits.
+#[tactic(auto, unfolding(crate::specs::Steps::entry_bit))]
 fn entry_bit(g: usize, d: usize, e: usize) -> bool
     requires { (d < g) × (g ≤ 8) }
     ensures { result ≡ entry_bit g d e }
@@ -30,28 +34,22 @@ fn entry_bit(g: usize, d: usize, e: usize) -> bool
     (e >> (g - (d + 1))) % 2 == 1
 }
 
-fn pick(one: bool, k: usize, last: usize) -> usize
-    ensures { result ≡ if one k last }
-{
-    if one { k } else { last }
-}
-
 // Which new page entry e goes to, counted from 1, or 0, when n splits are made of a page of depth d: bit 1 moves it to the new page, and it is
-// split on as long as its bits are the call's.
+// split on as long as its bits are the call's. (0, and no `Option`: `Steps.goes` is a number, which `mem_entry` adds to that of the pages in use.)
 pub fn last_one(g: usize, call: u32, e: usize, n: usize, d: usize) -> usize
     requires { (d + n ≤ g) × (g ≤ 8) }
     ensures { (result ≡ last_one g call e n d 1 0) × (result ≤ n) }
 {
     let key = key::pseudo_key(call);
-    let mut last: usize = 0;
-    let mut k: usize = 0;
-    while k < n {
+    let mut last = 0;
+    for k in 0..n {
         let one = entry_bit(g, d + k, e);
-        last = pick(one, k + 1, last);
+        if one {
+            last = k + 1;
+        }
         if one != key::bit(key, d + k) {
             return last;
         }
-        k += 1;
     }
     last
 }

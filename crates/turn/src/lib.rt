@@ -16,11 +16,12 @@ ghost use Rattle.turn.specs.Safe.{Safe, Lockable};
 use memory::Shape;
 use spec::{Op, Stage};
 
+// (Numbers, and no enums: C lends the rows, with any numbers in them.)
 // An operation's row: its stage in numbers, its turns used, and its answer, with the page that is told; 16 bytes, and no padding. A page (`page`,
 // `told`) is kept as its number less one, so that page 256 has a byte too, and what a split counts (`count`, `next`) is below 256. `base` may be a
 // turn, and has 16 bits like `used` and `moment`.
 #[repr(C)]
-#[derive(Clone, Copy)]
+#[derive(Clone, Copy, Default)]
 pub struct Row {
     pub charge: u32,
     pub used: u16,
@@ -39,52 +40,47 @@ impl Row {
     pub fn blank() -> Row
         ensures { result ≡ blank_row }
     {
-        Row {
-            charge: 0,
-            used: 0,
-            moment: 0,
-            base: 0,
-            stage: 0,
-            code: 0,
-            page: 0,
-            told: 0,
-            count: 0,
-            next: 0,
-        }
+        Row::default()
     }
 
     // "One turn is one step of the operation it names": the operation is handed in and comes back moved on, on turn t.
-    pub fn step(mut self, shape: Shape, op: Op, t: u16, work: &mut [u8]) -> Row
+    #[tactic(auto, unfolding(crate::specs::Steps::mem_step, crate::specs::Steps::mem_turn))]
+    pub fn step(self, shape: Shape, op: Op, t: u16, work: &mut [u8]) -> Row
         requires { Safe shape op self work.old }
         ensures { out result work.new ≡ mem_step shape op t self work.old }
     {
-        let st = rows::stage_of(self);
-        match st {
-            Stage::NotBegun => self = self.begin(shape, op, work),
-            Stage::ReadPage(x) => self = self.read_page(shape, op, t, x, work),
-            Stage::Reread(x, u) => self = self.reread(shape, op, x, u, work),
-            Stage::Lock(x) => self = self.lock(x, work),
-            Stage::Held(x, task) => self = self.held(shape, op, t, x, task, work),
-            Stage::Split(x, b, n, part) => self = self.split(shape, op, t, x, b, n, part, work),
-            Stage::Done => {}
+        let turn = Turn { shape, op, now: t };
+        match self.stage_now() {
+            Stage::NotBegun => self.begin(turn, work),
+            Stage::ReadPage(x) => self.read_page(turn, x, work),
+            Stage::Reread(x, u) => self.reread(turn, x, u, work),
+            Stage::Lock(x) => self.lock(x, work),
+            Stage::Held(x, task) => self.held(turn, x, task, work),
+            Stage::Split(x, b, n, part) => self.split(turn, x, b, n, part, work),
+            Stage::Done => self,
         }
-        self
     }
 
     // A turn would do nothing for the operation: it "only waits", or is finished.
+    #[tactic(auto, unfolding(crate::specs::Steps::idles, crate::specs::Steps::idle_at))]
     pub fn idles(self, work: &[u8]) -> bool
         requires { Lockable self work.now }
         ensures { result ≡ idles self work.now }
     {
-        let st = rows::stage_of(self);
-        match st {
-            Stage::NotBegun => false,
-            Stage::ReadPage(_) => false,
-            Stage::Reread(_, _) => false,
+        match self.stage_now() {
             Stage::Lock(x) => memory::is_locked(work, x),
-            Stage::Held(_, _) => false,
-            Stage::Split(_, _, _, _) => false,
             Stage::Done => true,
+            _ => false,
         }
     }
+}
+
+// One turn: the shape of the run, the operation that the turn names, and the turn's number. (What the functions on it ask stands in their contracts
+// and in no type: `Few` is of a row, which C lends with any numbers in it, and `Ready` is of the shape and of the memory that is lent beside it, as
+// are `Readable`, `Planned` and `Splitting`. The numbers x, j and n come out of rows, where they are plain numbers.)
+#[derive(Clone, Copy)]
+pub(crate) struct Turn {
+    pub(crate) shape: Shape,
+    pub(crate) op: Op,
+    pub(crate) now: u16,
 }

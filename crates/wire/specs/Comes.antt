@@ -1,11 +1,8 @@
 -- What a call that writes an output comes to, step by step: refused, nothing is written; done, the output stands first in the buffer.
-use Rattle.std.specs.Prelude.{ℕ, ◌≤◌, ◌≡◌, List, length}
+use Rattle.std.specs.Prelude.{ℕ, ◌≤◌, ◌≡◌, List, length, Option, None, Some, Ok, Err}
 use Rattle.std.proofs.Common.{◌∙◌}
-use Rattle.std.proofs.Math.Option.{Option, none, some}
-use Rattle.spec.specs.declared.Outcome.{Outcome}
-use Rattle.spec.specs.declared.Outcome.TheVariants.{Done, Refused}
 use Rattle.spec.specs.Check.{Fault}
-use Rattle.spec.specs.Outcome.{outcome_by, after_call, buffer_by}
+use Rattle.spec.specs.Outcome.{Outcome, outcome_by, after_call, buffer_by}
 use Rattle.wire.specs.Over.{over}
 use Rattle.wire.specs.OverLaws.{over-front}
 
@@ -14,17 +11,17 @@ pub record Comes (fault : Option Fault) (output s t : List ℕ) (r : Outcome) : 
   pub answer : r ≡ outcome_by fault output
   pub buffer : t ≡ buffer_by fault output s
 
-pub comes_refused : {fault : Option Fault} {output s : List ℕ} (n p : ℕ) → fault ≡ some (record { number = n; place = p }) → Comes fault output s s (Refused n p)
+pub comes_refused : {fault : Option Fault} {f : Fault} {output s : List ℕ} → fault ≡ Some f → Comes fault output s s (Err f)
 unfolding outcome_by buffer_by after_call
-comes_refused n p e = record { answer = rw e; buffer = rw e }
+comes_refused e = record { answer = rw e; buffer = rw e }
 
 pub comes_done
     : {fault : Option Fault} {output s t : List ℕ} {n : ℕ}
-    → fault ≡ none
+    → fault ≡ None
     → n ≡ length output
     → t ≡ over s 0 output
     → length output ≤ length s
-    → Comes fault output s t (Done n)
+    → Comes fault output s t (Ok n)
 unfolding outcome_by buffer_by after_call
 comes_done {output = output} {s = s} e l w u = record { answer = rw (e, l); buffer = rw e (w ∙ over-front output s u) }
 

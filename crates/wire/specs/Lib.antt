@@ -1,5 +1,6 @@
 -- what the contracts cite
 pub mod Over
+pub mod Low
 pub mod Wrote
 pub mod Comes
 -- laws for callers' proofs

@@ -1,5 +1,5 @@
 -- A part of a slice, `take n (drop a s)`: how it comes back when it was lent, and what a write makes of it. (What is read of it: laws' Codec/Parts.)
-use Rattle.std.specs.Prelude.{◌≡◌, List, ◌++◌, ℕ, ◌+◌, ◌≤◌, ◌<◌, length, take, drop}
+use Rattle.std.specs.Prelude.{◌≡◌, List, ◌++◌, ℕ, ◌+◌, ◌-◌, ◌≤◌, ◌<◌, length, take, drop}
 use Rattle.std.proofs.Common.{sym, ◌∙◌, add_assoc, arith, length-drop, length-take-le, drop-drop, ext_get_or}
 use Rattle.spec.specs.Bytes.{byte}
 use Rattle.laws.specs.Codec.Parts.{byte_in}
@@ -13,6 +13,16 @@ length_part s a n h = length-take-le n (drop a s) (omega (arith, length-drop a s
 -- a part that was lent comes back, with other bytes
 pub over_part : (s x : List ℕ) (a n : ℕ) → length x ≡ n → a + n ≤ length s → take a s ++ (x ++ drop n (drop a s)) ≡ over s a x
 over_part s x a n e h = rw (drop-drop n a s, ← e) (sym (over_parts x s a (omega arith)))
+
+-- the same, by the ends of the part
+pub over_between
+    : (s x y : List ℕ) (a e : ℕ)
+    → y ≡ x
+    → length x ≡ e - a
+    → a ≤ e
+    → e ≤ length s
+    → take a s ++ (y ++ drop (e - a) (drop a s)) ≡ over s a x
+over_between s x y a e h l k m = rw h (over_part s x a (e - a) l (omega arith))
 
 -- two lists of n bytes each are the same if their bytes are
 pub same_bytes : (x y : List ℕ) (n : ℕ) → length x ≡ n → length y ≡ n → ((j : ℕ) → j < n → byte x j ≡ byte y j) → x ≡ y

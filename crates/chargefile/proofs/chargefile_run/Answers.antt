@@ -2,4 +2,4 @@ use Rattle.chargefile.proofs.Laws.{run_called}
 use Rattle.chargefile.proofs.chargefile_run.Goals as goal
 
 pub returns : goal.returns
-returns c = run_called _ c.run-o.ensures c.handed.ensures
+returns c = run_called _ c.run.ensures c.from.ensures

@@ -1,8 +1,9 @@
 use Rattle.std.proofs.Common.{arith}
-use Rattle.chargelog.proofs.Laws.{text_says}
+use Rattle.chargelog.proofs.Laws.{is_told, text_says}
 use Rattle.chargelog.proofs.text_of.Goals as goal
 
-pub returns-in-Text : goal.returns-in-Text
-returns-in-Text c =
-    let printed = rw c.in-Text.is at c.print-p.ensures in
-    text_says printed.1 (omega arith) (omega arith) (omega arith)
+pub unwrap-requires : goal.unwrap-requires
+unwrap-requires c = is_told c.print.result (λ short e. let room = rw e at c.print.ensures in omega (arith, room.0))
+
+pub returns : goal.returns
+returns c = let printed = rw c.unwrap.ensures at c.print.ensures in text_says printed.1 (omega arith) (omega arith) (omega arith)

@@ -1,50 +1,50 @@
+-- `check_all` answers with the first row that holds: the job's own, then turns present, then the lent lengths.
 use mathlib.Core.Path.{◌≡◌, sym, ap, ◌∙◌}
-use mathlib.Core.List.{List}
-use mathlib.Core.Option.{none}
-use Prim.Native.Nat.{ℕ}
-use native.Mathlib.Omega.{arith}
+use Rattle.std.proofs.lemmas.Result.{err_from_is_err_and}
 use Rattle.spec.specs.Job.{Header as Counts}
 use Rattle.spec.specs.Decode.{header_of}
-use Rattle.spec.specs.Check.{job_fault}
 use Rattle.spec.specs.Deal.{small_for_deal}
-use Rattle.laws.specs.Codec.Rows.{accepted_header}
-use Rattle.laws.specs.Codec.AsBytes.{are_bytes}
-use Rattle.header.specs.declared.Header.{Header}
-use Rattle.header.specs.Counts.{counts_of}
-use Rattle.laws.specs.Codec.Answer.{accepted, refused}
-use Rattle.deal.proofs.Ends.{by_job, by_turns, by_lent, by_none}
+use Rattle.header.specs.Counts.{counts_of, Heads}
+use Rattle.laws.specs.Codec.Answer.{no_fault, its_fault}
+use Rattle.deal.proofs.Ends.{by_job, by_turns, by_lent}
+use Rattle.deal.proofs.check_all.Goals.{In_ok-reader, After-small_for}
 use Rattle.deal.proofs.check_all.Goals as goal
 
--- the turns that the header tells are those of the job
-turns_are : (h : Header) (b : List ℕ) → counts_of h ≡ header_of b → h.turns ≡ (header_of b).turns
-turns_are h b e = ap (λ (k : Counts). k.turns) e
+-- the header is the job's
+head_is : (c : In_ok-reader) → counts_of c.in_ok-reader.reader.header ≡ header_of c.args.job.now
+head_is c =
+    let r = c.in_ok-reader in
+    let h : Heads r.reader.header c.args.job.now = rw r.ensures.read at r.reader.heads in
+    h.counts
 
-pub returns-in-Refused : goal.returns-in-Refused
-returns-in-Refused c =
-    (by_job _ _ _ _ (refused _ _ _ (sym c.in-Refused.is ∙ c.check-c.ensures)), are_bytes _ (λ j. omega (arith, c.shared_slice_known-1.given j)))
+turns_are : (c : In_ok-reader) → c.in_ok-reader.reader.header.turns ≡ (header_of c.args.job.now).turns
+turns_are c = ap (λ (k : Counts). k.turns) (head_is c)
 
-pub read-h-requires : goal.read-h-requires
-read-h-requires c =
-    let passed : job_fault c.args.job.now ≡ none = accepted _ (sym c.in_default.is ∙ c.check-c.ensures) in
-    (accepted_header _ (passed)).laid.header
+pub returns-in_err-reader-clause-fault : goal.returns-in_err-reader-clause-fault
+returns-in_err-reader-clause-fault c =
+    let p = err_from_is_err_and c.from_residual.result c.from_residual.ensures.1 in
+    rw (p.1, p.2) (by_job _ _ _ (its_fault c.check.ensures.fault c.in_err-reader.was))
 
-pub returns-then-h-ne0 : goal.returns-then-h-ne0
-returns-then-h-ne0 c =
-    let passed : job_fault c.args.job.now ≡ none = accepted _ (sym c.in_default.is ∙ c.check-c.ensures) in (
-      by_turns _ _ (passed) (λ z. c.if-h-ne0.true (turns_are _ _ c.read-h.ensures ∙ z)),
-      are_bytes _ (λ j. omega (arith, c.shared_slice_known-1.given j)),
-    )
+pub returns-then-h-ne0-clause-fault : goal.returns-then-h-ne0-clause-fault
+returns-then-h-ne0-clause-fault c =
+    rw c.at.ensures
+    (by_turns _ _ (no_fault c.check.ensures.fault c.in_ok-reader.was)
+    (λ z. c.if-h-ne0.true (turns_are (goal.at.returns-then-h-ne0-clause-fault c).In_ok-reader ∙ z)))
 
-pub returns-in-At : goal.returns-in-At
-returns-in-At c =
-    let passed : job_fault c.args.job.now ≡ none = accepted _ (sym c.in_default.is ∙ c.check-c.ensures) in (
-      by_lent _ _ _ (passed) (sym (turns_are _ _ c.read-h.ensures) ∙ c.if-h-ne0.false) (unfold small_for_deal in (sym c.in-At.is ∙ c.small_for-s.ensures _ c.read-h.ensures)),
-      are_bytes _ (λ j. omega (arith, c.shared_slice_known-1.given j)),
-    )
+pub returns-in_err-refuses-clause-fault : goal.returns-in_err-refuses-clause-fault
+unfolding small_for_deal
+returns-in_err-refuses-clause-fault c =
+    let p = err_from_is_err_and c.from_residual-in_err-refuses.result c.from_residual-in_err-refuses.ensures.1 in
+    let at = (goal.at.returns-in_err-refuses-clause-fault c).In_ok-reader in
+    rw (p.1, p.2)
+    (by_lent _ _ _ _ (no_fault c.check.ensures.fault c.in_ok-reader.was) (sym (turns_are at) ∙ c.if-h-ne0.false)
+    (c.small_for.ensures _ (head_is at))
+    (its_fault c.refuses.ensures c.in_err-refuses.was))
 
-pub returns : goal.returns
-returns c =
-    let passed : job_fault c.args.job.now ≡ none = accepted _ (sym c.in_default.is ∙ c.check-c.ensures) in (
-      by_none _ _ (passed) (sym (turns_are _ _ c.read-h.ensures) ∙ c.if-h-ne0.false) (unfold small_for_deal in (sym c.in_default-s.is ∙ c.small_for-s.ensures _ c.read-h.ensures)),
-      are_bytes _ (λ j. omega (arith, c.shared_slice_known-1.given j)),
-    )
+pub returns-clause-fault : goal.returns-clause-fault
+unfolding small_for_deal
+returns-clause-fault c =
+    let at = (goal.at.returns-clause-fault c).In_ok-reader in
+    by_lent _ _ _ _ (no_fault c.check.ensures.fault c.in_ok-reader.was) (sym (turns_are at) ∙ c.if-h-ne0.false)
+    (c.small_for.ensures _ (head_is at))
+    (no_fault c.refuses.ensures c.in_ok-refuses.was)

@@ -1,8 +1,7 @@
--- `key::first_bits` meets its contract: a shift to the right is a quotient.
-use mathlib.Core.Path.{refl}
+-- A shift to the right is a quotient.
+use Rattle.std.proofs.Common.{refl, rules}
 use Rattle.spec.specs.Key.{first_bits}
 use Rattle.laws.specs.Key.{first_bits-lt}
-use borrow.Author.Rules.{rules}
 use Rattle.key.proofs.first_bits.Goals as goal
 
 pub returns : goal.returns

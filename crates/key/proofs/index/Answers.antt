@@ -1,4 +1,4 @@
--- `key::index` meets its contract: the first bits of the call's pseudo key.
+-- The first bits of the call's pseudo key.
 use Rattle.spec.specs.Key.{index}
 use Rattle.key.proofs.index.Goals as goal
 

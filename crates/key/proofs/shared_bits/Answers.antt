@@ -1,4 +1,4 @@
--- `key::shared_bits` meets its contract: leading zeros of the exclusive-or.
+-- Leading zeros of the exclusive-or.
 use Rattle.laws.specs.Turns.Shared.{shared_top}
 use Rattle.key.specs.Shared.{leading_shared}
 use Rattle.key.proofs.shared_bits.Goals as goal

@@ -1,9 +1,8 @@
 -- A job that no row refuses comes with a proper file, and its turns name its operations.
 use Prim.Native.Nat.{ℕ, zero, suc, ◌<◌, ◌≤◌}
-use Rattle.std.specs.Prelude.{◌≡◌, ◌↔◌, List, [], true, length, get_or}
+use Rattle.std.specs.Prelude.{◌≡◌, ◌↔◌, List, [], true, length, get_or, None}
 use Rattle.std.proofs.Math.Path.{refl}
 use Rattle.std.proofs.Common.{◌∙◌}
-use Rattle.std.proofs.Math.Option.{none}
 use native.Mathlib.Omega.{arith}
 use Rattle.std.proofs.Math.Decide.{dec_lt}
 use Rattle.std.proofs.Math.ListN.{get_or-eq_default}
@@ -21,7 +20,7 @@ use Rattle.laws.specs.Codec.Pages.{PageFine, pages_said, page_proper, zero-page,
 use Rattle.laws.specs.Codec.Ops.{turns_said}
 
 -- rows 3 and 5
-fit : (b : List ℕ) → over_limit b ≡ none → wrong_entry b ≡ none → Fit (file_of b)
+fit : (b : List ℕ) → over_limit b ≡ None → wrong_entry b ≡ None → Fit (file_of b)
 unfolding file_of wrong_entry entry_at
 fit b r3 r5 =
     let l = (limits_said b).0 r3 in
@@ -38,7 +37,7 @@ fit b r3 r5 =
     }
 
 -- ROW 7, WITH NO WORD OF TESTS: of the pages in use, the pattern of page x begins entry e exactly if entry e names page x
-pub owner_said : (b : List ℕ) → over_limit b ≡ none → wrong_entry b ≡ none → wrong_owner b ≡ none ↔ Owners (file_of b)
+pub owner_said : (b : List ℕ) → over_limit b ≡ None → wrong_entry b ≡ None → wrong_owner b ≡ None ↔ Owners (file_of b)
 unfolding wrong_owner
 owner_said b r3 r5 = owners_said (file_of b) (fit b r3 r5)
 
@@ -73,7 +72,7 @@ module _ (b : List ℕ) (rows : Rows b) where
       by (no l) = rw (get_or-eq_default (page_parts (header_of b) b) [] {n = k} (rw length-pages (omega arith)))
 
 -- THE FILE OF AN ACCEPTED JOB IS PROPER
-pub accepted-file : (b : List ℕ) → job_fault b ≡ none → FileOk (job_of b).file
+pub accepted-file : (b : List ℕ) → job_fault b ≡ None → FileOk (job_of b).file
 unfolding job_of entry_at
 accepted-file b e =
     let rows = (accepted-rows b).0 e in
@@ -88,12 +87,12 @@ accepted-file b e =
     }
 
 -- AND ITS TURNS NAME ITS OPERATIONS
-pub accepted-turns : (b : List ℕ) → job_fault b ≡ none → Each (λ t. t < length (job_of b).ops) (job_of b).turns
+pub accepted-turns : (b : List ℕ) → job_fault b ≡ None → Each (λ t. t < length (job_of b).ops) (job_of b).turns
 unfolding job_of wrong_turn
 accepted-turns b e =
     let us = turn_parts (header_of b) b in
     rw (counted b).ops ((each_map number_of us).1 ((turns_said (header_of b) us).0 ((accepted-rows b).0 e).r10))
 
-pub file_ok : (b : List ℕ) → job_fault b ≡ none → FileOk (file_of b)
+pub file_ok : (b : List ℕ) → job_fault b ≡ None → FileOk (file_of b)
 unfolding job_of
 file_ok b e = accepted-file b e

@@ -1,40 +1,18 @@
--- What an answer says of the definition that it is of: the place of a row, and the check of all.
-use Rattle.std.specs.Prelude.{ℕ, ◌≡◌, refl}
-use Rattle.std.proofs.Math.Option.{Option, none, some}
-use Rattle.std.proofs.Common.{arith}
-use Rattle.spec.specs.declared.Spot.TheVariants.{At, Nowhere}
-use Rattle.spec.specs.declared.Checked.TheVariants.{Accepted, Refused}
-use Rattle.spec.specs.Check.{Fault}
-use Rattle.spec.specs.Cases.{spot_of, checked_of}
+-- What an answer says of the fault that it is about: a row of the table, or all of them.
+use Rattle.std.specs.Prelude.{ℕ, ◌≡◌, Option, None, Some, Result, Ok, Err}
+use Rattle.std.proofs.Common.{sym, ap, ◌∙◌}
+use Rattle.spec.specs.declared.Refusal.{Refusal}
+use Rattle.spec.specs.Check.{Fault, numbered}
+use Rattle.spec.specs.Cases.{fault_of, fault_in}
+use Rattle.laws.specs.Codec.Tools.{numbered-none}
 
-pub spot_some : (o : Option ℕ) (p : ℕ) → At p ≡ spot_of o → o ≡ some p
-unfolding spot_of
-spot_some none p e = let z : ◌≡◌ {A = ℕ} 0 1 = cc in absurd (omega arith)
-spot_some (some q) p e = let z : p ≡ q = cc in rw z
+-- what is answered `Ok` has no fault, and what is refused has the fault that is told
+pub no_fault : {A : Type 0} {o : Option Fault} {r : Result A Refusal} {x : A} → fault_in r ≡ o → r ≡ Ok x → o ≡ None
+no_fault e w = sym e ∙ ap fault_in w
 
-pub spot_none : (o : Option ℕ) → Nowhere ≡ spot_of o → o ≡ none
-unfolding spot_of
-spot_none none e = refl
-spot_none (some q) e = let z : ◌≡◌ {A = ℕ} 0 1 = cc in absurd (omega arith)
+pub its_fault : {A : Type 0} {o : Option Fault} {r : Result A Refusal} {f : Refusal} → fault_in r ≡ o → r ≡ Err f → o ≡ Some (fault_of f)
+its_fault e w = sym e ∙ ap fault_in w
 
-pub accepted : (o : Option Fault) → Accepted ≡ checked_of o → o ≡ none
-unfolding checked_of
-accepted none e = refl
-accepted (some f) e = let z : ◌≡◌ {A = ℕ} 0 1 = cc in absurd (omega arith)
-
-pub refused : (o : Option Fault) (n p : ℕ) → Refused n p ≡ checked_of o → o ≡ some (record { number = n; place = p })
-unfolding checked_of
-refused none n p e = let z : ◌≡◌ {A = ℕ} 0 1 = cc in absurd (omega arith)
-refused (some f) n p e =
-    let a : n ≡ f.number = cc in
-    let b : p ≡ f.place = cc in
-    rw (a, b)
-
--- and what the answer is where that is known
-pub accepted_by : {o : Option Fault} → o ≡ none → Accepted ≡ checked_of o
-unfolding checked_of
-accepted_by e = rw e
-
-pub refused_by_lem : {o : Option Fault} {n p : ℕ} → o ≡ some (record { number = n; place = p }) → Refused n p ≡ checked_of o
-unfolding checked_of
-refused_by_lem e = rw e
+-- a row that is answered `Ok` holds nowhere
+pub row_passed : {A : Type 0} (n : ℕ) (o : Option ℕ) {r : Result A Refusal} {x : A} → fault_in r ≡ numbered n o → r ≡ Ok x → o ≡ None
+row_passed n o e w = (numbered-none n o).0 (no_fault e w)

@@ -1,7 +1,6 @@
 -- An accepted job is a proper one, and fits its fields. So the byte strings that no row refuses are exactly the written proper jobs.
-use Rattle.std.specs.Prelude.{ℕ, zero, suc, ◌≡◌, ◌↔◌, List, [], drop}
+use Rattle.std.specs.Prelude.{ℕ, zero, suc, ◌≡◌, ◌↔◌, List, [], drop, None}
 use Rattle.std.proofs.Common.{sym, ap, ◌∙◌, arith}
-use Rattle.std.proofs.Math.Option.{none}
 use Rattle.spec.specs.Basics.{Each}
 use Rattle.spec.specs.Bytes.{AreBytes, byte}
 use Rattle.spec.specs.Job.{Job, kind_number, op_size, table_offset, ops_offset}
@@ -53,7 +52,7 @@ ops_proper b h rows =
     (each_map op_of _).1 (each_imp₂ op_proper bytes ((ops_said (header_of b) _).0 rows.r9))
 
 -- AN ACCEPTED JOB IS PROPER
-pub accepted_proper : (b : List ℕ) → AreBytes b → job_fault b ≡ none → JobProper (job_of b)
+pub accepted_proper : (b : List ℕ) → AreBytes b → job_fault b ≡ None → JobProper (job_of b)
 unfolding job_of
 accepted_proper b h e =
     let rows = (accepted-rows b).0 e in
@@ -69,7 +68,7 @@ accepted_proper b h e =
     }
 
 -- WHAT IS ACCEPTED IS EXACTLY WHAT IS WRITTEN OF PROPER JOBS
-pub accepted_exactly : (b : List ℕ) → AreBytes b × (job_fault b ≡ none) ↔ ((j : Job) × JobProper j × (encode_job j ≡ b))
+pub accepted_exactly : (b : List ℕ) → AreBytes b × (job_fault b ≡ None) ↔ ((j : Job) × JobProper j × (encode_job j ≡ b))
 accepted_exactly b = (
   λ h. (job_of b, accepted_proper b h.0 h.1, encode-decode b h.0 h.1),
   λ w. (rw w.2 at (written-bytes w.0 w.1), rw w.2 at (proper_accepted w.0 w.1)),

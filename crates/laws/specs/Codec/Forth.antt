@@ -1,7 +1,6 @@
 -- The bytes of an accepted job are what is written of the job that they mean: encode_job (job_of b) is b.
-use Rattle.std.specs.Prelude.{ℕ, zero, suc, ◌+◌, ◌-◌, ◌*◌, ◌^◌, ◌<◌, ◌≤◌, ◌≡◌, List, [], ◌∷◌, map, get_or, drop, replicate}
+use Rattle.std.specs.Prelude.{ℕ, zero, suc, ◌+◌, ◌-◌, ◌*◌, ◌^◌, ◌<◌, ◌≤◌, ◌≡◌, List, [], ◌∷◌, map, get_or, drop, replicate, None}
 use Rattle.std.proofs.Math.Path.{refl}
-use Rattle.std.proofs.Math.Option.{none}
 use Rattle.std.proofs.Common.{arith}
 use Rattle.std.proofs.Math.ListN.{length, length-drop}
 use Rattle.std.proofs.lemmas.List.{length-map}
@@ -136,5 +135,5 @@ module _ (b : List ℕ) (bytes : AreBytes b) (rows : Rows b) where
   job_forth = rw head_same (all_of (header_forth then directory_forth then table_forth then ops_forth then turns_forth) laid.size)
 
 -- WHAT IS ACCEPTED IS WHAT IS WRITTEN
-pub encode-decode : (b : List ℕ) → AreBytes b → job_fault b ≡ none → encode_job (job_of b) ≡ b
+pub encode-decode : (b : List ℕ) → AreBytes b → job_fault b ≡ None → encode_job (job_of b) ≡ b
 encode-decode b bytes e = job_forth b bytes ((accepted-rows b).0 e)

@@ -1,9 +1,8 @@
 -- The pages in use, 1 to U, by number: what a walk over them says, said of page x.
 use Rattle.std.proofs.Math.Logic.Dec
-use Rattle.std.specs.Prelude.{ℕ, zero, suc, ◌<◌, ◌≤◌, ◌≡◌, ◌↔◌, Bool, false, length, get_or, drop}
+use Rattle.std.specs.Prelude.{ℕ, zero, suc, ◌<◌, ◌≤◌, ◌≡◌, ◌↔◌, Bool, false, length, get_or, drop, Option, None}
 use Rattle.std.proofs.Common.{◌∙◌, arith, one-add, get_or-drop}
 use Rattle.std.proofs.Math.Logic.{by_cases}
-use Rattle.std.proofs.Math.Option.{Option, none}
 use Rattle.std.proofs.Math.Decide.{dec_le}
 use Rattle.std.proofs.Math.ListN.{length-drop}
 use Rattle.std.proofs.Math.Seq.{length-take-le, get_or-take}
@@ -40,8 +39,8 @@ module _ (f : File) (within : f.used ≤ f.limit) (size : length f.table ≡ suc
       there h (suc k) n = rw (in_use_at k (omega arith)) at (h k (omega (arith, length_in_use)))
 
   pub first_in_use
-      : (t : ℕ → Page → Option ℕ) → first_of t 1 (pages_in_use f) ≡ none ↔ ((x : ℕ) → PageNo f x → t x (page_at f x) ≡ none)
-  first_in_use t = rw first_from_1 (simp (first-none (λ x. t (suc x)) (pages_in_use f) zero_page) (by_number (λ x p. t x p ≡ none)))
+      : (t : ℕ → Page → Option ℕ) → first_of t 1 (pages_in_use f) ≡ None ↔ ((x : ℕ) → PageNo f x → t x (page_at f x) ≡ None)
+  first_in_use t = rw first_from_1 (simp (first-none (λ x. t (suc x)) (pages_in_use f) zero_page) (by_number (λ x p. t x p ≡ None)))
 
   pub any_in_use : (t : ℕ → Page → Bool) → any_of t 1 (pages_in_use f) ≡ false ↔ ((x : ℕ) → PageNo f x → t x (page_at f x) ≡ false)
   any_in_use t = rw any_from_1 (simp (any_none (λ x. t (suc x)) (pages_in_use f) zero_page) (by_number (λ x p. t x p ≡ false)))

@@ -1,9 +1,8 @@
 -- No job is longer than 53,280 bytes, and one byte more already decides: what is printed of any bytes is what is printed of their first 53,281.
-use Rattle.std.specs.Prelude.{ℕ, suc, ◌*◌, ◌<◌, ◌≤◌, ◌≡◌, refl, List, Bool, true, not, ◌||◌, length, take, eqb}
+use Rattle.std.specs.Prelude.{ℕ, suc, ◌*◌, ◌<◌, ◌≤◌, ◌≡◌, refl, List, Bool, true, not, ◌||◌, length, take, eqb, Option, None, Some}
 use Rattle.std.proofs.Common.{sym, ap, ◌∙◌, mul-le-mul, arith, pow_mono, take_all, ne_eqb}
 use Rattle.std.proofs.Math.Logic.{by_cases}
 use Rattle.std.proofs.Math.Bool.{or-true}
-use Rattle.std.proofs.Math.Option.{Option, none, some}
 use Rattle.std.proofs.Math.Decide.{dec_le}
 use Rattle.std.proofs.Math.Seq.{length-take-le}
 use Rattle.spec.specs.Basics.{or_else}
@@ -33,10 +32,10 @@ unfolding total turns_offset file_length
 total_most h l = omega (arith, file-most h l, l.ops, l.turns)
 
 -- what comes after a row matters only where the row does not hold
-goes_on : (n : ℕ) (x : Option ℕ) (y z : Option Fault) → (x ≡ none → y ≡ z) → or_else (numbered n x) y ≡ or_else (numbered n x) z
+goes_on : (n : ℕ) (x : Option ℕ) (y z : Option Fault) → (x ≡ None → y ≡ z) → or_else (numbered n x) y ≡ or_else (numbered n x) z
 unfolding or_else numbered
-goes_on n none y z h = h refl
-goes_on n (some p) y z h = refl
+goes_on n None y z h = h refl
+goes_on n (Some p) y z h = refl
 
 -- BYTES LONGER THAN EVERY JOB, and their first n, which are still longer
 module _ (b : List ℕ) (n : ℕ) (more : longest < n) (within : n ≤ length b) where
@@ -49,7 +48,7 @@ module _ (b : List ℕ) (n : ℕ) (more : longest < n) (within : n ≤ length b)
       rw
       (byte_in n 0 b g_at (omega arith), byte_in n 0 b c_at (omega arith), word_in n 0 b limit_at (omega arith), word_in n 0 b used_at (omega arith), word_in n 0 b op_count_at (omega arith), word_in n 0 b turn_count_at (omega arith))
 
-  not_short : (c : List ℕ) → longest < length c → short c ≡ none
+  not_short : (c : List ℕ) → longest < length c → short c ≡ None
   unfolding short
   not_short c l = simp failed (omega arith)
 
@@ -76,7 +75,7 @@ module _ (b : List ℕ) (n : ℕ) (more : longest < n) (within : n ≤ length b)
         (header_kept, long_in n 0 b directory_offset_at (omega arith), long_in n 0 b table_offset_at (omega arith), long_in n 0 b ops_offset_at (omega arith), long_in n 0 b turns_offset_at (omega arith), long_in n 0 b total_at (omega arith))
         (rw (not_total _ (length front) (omega (arith, length-take-le n b within)), not_total _ (length b) (omega arith)))
 
-    offset_wrong : wrong_offset b ≡ none → ⊥
+    offset_wrong : wrong_offset b ≡ None → ⊥
     unfolding wrong_offset
     offset_wrong e = let laid = simp (failed, among_none, among_end) at e in omega (arith, laid, total_most (header_of b) limits)
 
@@ -90,9 +89,9 @@ module _ (b : List ℕ) (n : ℕ) (more : longest < n) (within : n ≤ length b)
       (λ v. goes_on _ _ _ _ (λ e. let limits = (limits_said b).0 e in rw (offset_kept limits) (goes_on _ _ _ _ (λ o. absurd (offset_wrong limits o)))))))
 
   -- so both are refused alike
-  fault : (o : Option Fault) → job_fault b ≡ o → (f : Fault) × (job_fault b ≡ some f)
-  fault none e = absurd (let h = accepted_header b e in omega (arith, h.laid.size, total_most (header_of b) h.limits))
-  fault (some f) e = (f, e)
+  fault : (o : Option Fault) → job_fault b ≡ o → (f : Fault) × (job_fault b ≡ Some f)
+  fault None e = absurd (let h = accepted_header b e in omega (arith, h.laid.size, total_most (header_of b) h.limits))
+  fault (Some f) e = (f, e)
 
   refused-kept : printed front ≡ printed b
   unfolding printed printed_by

@@ -1,8 +1,7 @@
 -- The numbers of the refusal table: a page's faults have 12, 6 or 13, those of the other rows have not 6. And no fault has the number 0: where the
 -- number told is 0, no row holds.
-use Rattle.std.specs.Prelude.{ℕ, ◌≡◌, refl, ◌⊎◌, List, false, eqb, take, drop}
+use Rattle.std.specs.Prelude.{ℕ, ◌≡◌, refl, ◌⊎◌, List, false, eqb, take, drop, Option}
 use Rattle.std.proofs.Common.{inl, inr, arith}
-use Rattle.std.proofs.Math.Option.{Option}
 use Rattle.spec.specs.Basics.{end, next}
 use Rattle.spec.specs.Job.{Header}
 use Rattle.spec.specs.Decode.{header_of}

@@ -1,10 +1,9 @@
 -- Rows 5 and 7 as properties of a file. Row 5: every entry names a page in use. Row 7, with no word of tests or walks: of the pages in use, the
 -- one whose pattern begins an entry is the one that the entry names, and no other.
 use Rattle.std.proofs.Math.Logic.Iff
-use Rattle.std.specs.Prelude.{ℕ, ◌^◌, ◌<◌, ◌≡◌, refl, ◌↔◌, false, length}
+use Rattle.std.specs.Prelude.{ℕ, ◌^◌, ◌<◌, ◌≡◌, refl, ◌↔◌, false, length, None}
 use Rattle.std.proofs.Common.{sym}
 use Rattle.std.proofs.Math.Bool.{true}
-use Rattle.std.proofs.Math.Option.{none}
 use Rattle.spec.specs.Basics.{first_of}
 use Rattle.spec.specs.Key.{begins}
 use Rattle.spec.specs.File.{File, page_at, entry_at}
@@ -16,7 +15,7 @@ use Rattle.laws.specs.Codec.InUse.{any_in_use}
 
 -- row 5
 pub entries_said
-    : (f : File) → first_of (entry_fault f.used) 0 f.directory ≡ none ↔ ((j : ℕ) → j < length f.directory → PageNo f (entry_at f j))
+    : (f : File) → first_of (entry_fault f.used) 0 f.directory ≡ None ↔ ((j : ℕ) → j < length f.directory → PageNo f (entry_at f j))
 unfolding entry_fault entry_at
 entries_said f = simp (first-none (entry_fault f.used) f.directory 0, failed) Iff.rfl
 
@@ -33,7 +32,7 @@ module _ (f : File) (fit : Fit f) where
   owner-fine j x =
       simp (only_no, failed, any_in_use f fit.within fit.pages) Iff.rfl
 
-  pub owners_said : first_of (owner_fault f) 0 f.directory ≡ none ↔ Owners f
+  pub owners_said : first_of (owner_fault f) 0 f.directory ≡ None ↔ Owners f
   unfolding owner_fault owns entry_at
   owners_said = simp (first-none (owner_fault f) f.directory 0, failed, owner-fine, fit.size) (there, back)
     where

@@ -1,8 +1,7 @@
 -- Rows 12, 6 and 13, said of the bytes of each page; and what is read of a page that they do not refuse.
 use Rattle.std.proofs.Math.Logic.Iff
-use Rattle.std.specs.Prelude.{ℕ, suc, ◌+◌, ◌*◌, ◌^◌, ◌<◌, ◌≤◌, ◌≡◌, ◌↔◌, List, [], true, length, get_or, drop}
+use Rattle.std.specs.Prelude.{ℕ, suc, ◌+◌, ◌*◌, ◌^◌, ◌<◌, ◌≤◌, ◌≡◌, ◌↔◌, List, [], true, length, get_or, drop, None}
 use Rattle.std.proofs.Math.Logic.{by_cases}
-use Rattle.std.proofs.Math.Option.{none}
 use Rattle.std.proofs.Common.{arith, lt-ltb, le-ltb}
 use Rattle.std.proofs.Math.Decide.{dec_le}
 use Rattle.std.proofs.lemmas.List.{length-map}
@@ -28,7 +27,7 @@ pub record PageFine (h : Header) (x : ℕ) (p : List ℕ) : Type 0 where
   pub rest : zeros (drop (4 + record_size * byte p 1) p) ≡ true
   pub unused : h.used < x → zeros p ≡ true
 
-page-used : (h : Header) (x : ℕ) (p : List ℕ) → x ≤ h.used → page_fault h x p ≡ none ↔ PageFine h x p
+page-used : (h : Header) (x : ℕ) (p : List ℕ) → x ≤ h.used → page_fault h x p ≡ None ↔ PageFine h x p
 unfolding page_fault if wrong_pattern over_count not_cleared
 page-used h x p l =
     rw (le-ltb _ _ l)
@@ -36,7 +35,7 @@ page-used h x p l =
     (λ e. record { deep = e.0.0; small = e.0.1.0; count = e.1.0; rest = e.1.1.0; unused = λ u. absurd (omega arith) }, λ r. search))
 
 -- a page that is zero passes rows 12 and 6 too
-page-unused : (h : Header) (x : ℕ) (p : List ℕ) → h.used < x → page_fault h x p ≡ none ↔ PageFine h x p
+page-unused : (h : Header) (x : ℕ) (p : List ℕ) → h.used < x → page_fault h x p ≡ None ↔ PageFine h x p
 unfolding page_fault if word
 page-unused h x p l =
     rw (lt-ltb _ _ l) (simp (row-none, row_end, numbered-none, not-zero-none) (λ e. zeroed e.0, λ r. (r.unused l, tt)))
@@ -51,12 +50,12 @@ page-unused h x p l =
           unused = λ u. e;
         }
 
-pub page-fine : (h : Header) (x : ℕ) (p : List ℕ) → page_fault h x p ≡ none ↔ PageFine h x p
+pub page-fine : (h : Header) (x : ℕ) (p : List ℕ) → page_fault h x p ≡ None ↔ PageFine h x p
 page-fine h x p = by_cases (dec_le x h.used) (page-used h x p) (λ n. page-unused h x p (omega arith))
 
 -- rows 12, 6 and 13
 pub pages_said
-    : (h : Header) (ps : List (List ℕ)) → first_of (page_fault h) 1 ps ≡ none ↔ ((k : ℕ) → k < length ps → PageFine h (suc k) (get_or ps k []))
+    : (h : Header) (ps : List (List ℕ)) → first_of (page_fault h) 1 ps ≡ None ↔ ((k : ℕ) → k < length ps → PageFine h (suc k) (get_or ps k []))
 pages_said h ps = simp (first_from_1, first-none (λ x. page_fault h (suc x)) ps [], page-fine) Iff.rfl
 
 -- the page that is read: as many records as its bytes count

@@ -1,34 +1,29 @@
 -- A loop over the members of a list that stops at the first fault: what it has passed, and what it answers.
-use Rattle.std.specs.Prelude.{ℕ, ◌+◌, ◌<◌, ◌≤◌, ◌≡◌, List, Bool, true, false, length, get_or}
-use Rattle.std.proofs.Math.Option.{Option, none, some}
+use Rattle.std.specs.Prelude.{ℕ, ◌+◌, ◌<◌, ◌≤◌, ◌≡◌, List, Bool, true, false, length, get_or, Option, None, Some}
 use Rattle.std.proofs.Common.{arith, below_none, below_more}
-use Rattle.spec.specs.declared.Spot.TheVariants.{At, Nowhere}
 use Rattle.spec.specs.Basics.{when, first_of}
-use Rattle.spec.specs.Cases.{spot_of}
 use Rattle.laws.specs.Codec.Walk.{first-none, first-at}
 
 module _ {A B : Type 0} (f : ℕ → A → Option B) (xs : List A) (d : A) where
   -- no member below k has a fault
   abbrev pub Passed : ℕ → Type 0
-  Passed k = (q : ℕ) → q < k → f q (get_or xs q d) ≡ none
+  Passed k = (q : ℕ) → q < k → f q (get_or xs q d) ≡ None
 
   pub passed_none : Passed 0
-  passed_none = below_none (λ q. f q (get_or xs q d) ≡ none)
+  passed_none = below_none (λ q. f q (get_or xs q d) ≡ None)
 
-  pub passed_more : (k : ℕ) → Passed k → f k (get_or xs k d) ≡ none → Passed (k + 1)
-  passed_more = below_more (λ q. f q (get_or xs q d) ≡ none)
+  pub passed_more : (k : ℕ) → Passed k → f k (get_or xs k d) ≡ None → Passed (k + 1)
+  passed_more = below_more (λ q. f q (get_or xs q d) ≡ None)
 
-  pub passed_end : (k : ℕ) → length xs ≤ k → Passed k → first_of f 0 xs ≡ none
+  pub passed_end : (k : ℕ) → length xs ≤ k → Passed k → first_of f 0 xs ≡ None
   passed_end k l h = (first-none f xs d).1 (λ q u. h q (omega arith))
 
 -- the same where the fault is a place
 module _ {A : Type 0} (f : ℕ → A → Option ℕ) (xs : List A) (d : A) where
-  pub passed_hit : (k p : ℕ) → k < length xs → Passed f xs d k → f k (get_or xs k d) ≡ some p → At p ≡ spot_of (first_of f 0 xs)
-  unfolding spot_of
+  pub passed_hit : (k p : ℕ) → k < length xs → Passed f xs d k → f k (get_or xs k d) ≡ Some p → Some p ≡ first_of f 0 xs
   passed_hit k p l h e = rw (first-at f xs d k p l h e)
 
-  pub passed_all : (k : ℕ) → length xs ≤ k → Passed f xs d k → Nowhere ≡ spot_of (first_of f 0 xs)
-  unfolding spot_of
+  pub passed_all : (k : ℕ) → length xs ≤ k → Passed f xs d k → None ≡ first_of f 0 xs
   passed_all k l h = rw (passed_end f xs d k l h)
 
 -- the same where the fault is a test, and the member's number tells the place
@@ -51,10 +46,10 @@ module _ {A : Type 0} (t : ℕ → A → Bool) (xs : List A) (d : A) where
     passed k h q l = rw (h q l)
 
     pub clear_hit
-        : (k p : ℕ) → k < length xs → Clear k → t k (get_or xs k d) ≡ true → p ≡ place k → At p ≡ spot_of (first_of (λ k x. when (t k x) (place k)) 0 xs)
+        : (k p : ℕ) → k < length xs → Clear k → t k (get_or xs k d) ≡ true → p ≡ place k → Some p ≡ first_of (λ k x. when (t k x) (place k)) 0 xs
     unfolding fault when
     clear_hit k p l h e q = rw q (passed_hit fault xs d k (place k) l (passed k h) (rw e))
 
-    pub clear_all : (k : ℕ) → length xs ≤ k → Clear k → Nowhere ≡ spot_of (first_of (λ k x. when (t k x) (place k)) 0 xs)
+    pub clear_all : (k : ℕ) → length xs ≤ k → Clear k → None ≡ first_of (λ k x. when (t k x) (place k)) 0 xs
     unfolding fault
     clear_all k l h = passed_all fault xs d k l (passed k h)

@@ -1,8 +1,7 @@
 -- With no turns the charge file in the result is the one that came in, byte for byte.
-use Rattle.std.specs.Prelude.{ℕ, zero, suc, ◌+◌, ◌-◌, ◌*◌, ◌^◌, ◌<◌, ◌≡◌, refl, List, [], ◌∷◌, ◌++◌, length, drop, replicate}
+use Rattle.std.specs.Prelude.{ℕ, zero, suc, ◌+◌, ◌-◌, ◌*◌, ◌^◌, ◌<◌, ◌≡◌, refl, List, [], ◌∷◌, ◌++◌, length, drop, replicate, None, Some}
 use Rattle.std.proofs.Common.{sym, ◌∙◌, append-nil, append_assoc, drop_of_length-le}
 use Rattle.std.proofs.Math.Path.{ap}
-use Rattle.std.proofs.Math.Option.{none, some}
 use native.Mathlib.Omega.{arith}
 use Rattle.std.proofs.Math.ListN.{take}
 use Rattle.spec.specs.Basics.{if, each, Each}
@@ -31,7 +30,7 @@ unmoved : (j : Job) → j.turns ≡ [] → run j ≡ start j.file (length j.ops)
 unfolding run steps
 unmoved j e = rw e
 
-unmoved_file : (j : Job) → j.turns ≡ [] → (result j).file ≡ some (encode_file j.file)
+unmoved_file : (j : Job) → j.turns ≡ [] → (result j).file ≡ Some (encode_file j.file)
 unfolding result result_of file_left start if
 unmoved_file j e = rw (unmoved j e, none-under (length j.ops))
 
@@ -39,11 +38,11 @@ pub no_member : {A : Type 0} (l : List A) → length l ≡ 0 → l ≡ []
 no_member l e = drop_of_length-le l {i = 0} (omega arith)
 
 -- THE RESULT'S FILE IS THE ONE THAT CAME IN
-pub no_turns : (b : List ℕ) → (header_of b).turns ≡ 0 → (result (job_of b)).file ≡ some (encode_file (job_of b).file)
+pub no_turns : (b : List ℕ) → (header_of b).turns ≡ 0 → (result (job_of b)).file ≡ Some (encode_file (job_of b).file)
 no_turns b e = unmoved_file (job_of b) (no_member (job_of b).turns ((counted b).turns ∙ e))
 
 -- what is written of the file of an accepted job
-module _ (b : List ℕ) (bytes : AreBytes b) (accepted : job_fault b ≡ none) where
+module _ (b : List ℕ) (bytes : AreBytes b) (accepted : job_fault b ≡ None) where
   rows : Rows b
   rows = (accepted-rows b).0 accepted
 

@@ -1,8 +1,7 @@
 -- Row 8 as a property of a file: in every page in use, each call's pseudo key begins with the page's pattern, and calls rise.
 -- The row compares a call with the one before it, `CallsRise` with all those behind it.
 use Rattle.std.proofs.Math.Logic.Iff
-use Rattle.std.specs.Prelude.{ℕ, zero, suc, ◌-◌, ◌<◌, ◌≤◌, ◌≡◌, ◌↔◌, List, [], ◌∷◌, length, get_or}
-use Rattle.std.proofs.Math.Option.{none}
+use Rattle.std.specs.Prelude.{ℕ, zero, suc, ◌-◌, ◌<◌, ◌≤◌, ◌≡◌, ◌↔◌, List, [], ◌∷◌, length, get_or, None}
 use Rattle.std.proofs.Common.{arith}
 use Rattle.spec.specs.declared.Rec.{Rec}
 use Rattle.spec.specs.Basics.{first_of, Each, end}
@@ -49,7 +48,7 @@ pub record RecordsOk (p : Page) : Type 0 where
   pub homed : Each (λ a. In p a.call) p.records
   pub calls_rise : CallsRise p.records
 
-page-records : (place : ℕ) (p : Page) → first_of (record_fault place p) 0 p.records ≡ none ↔ RecordsOk p
+page-records : (place : ℕ) (p : Page) → first_of (record_fault place p) 0 p.records ≡ None ↔ RecordsOk p
 unfolding record_fault bad_record not_above
 page-records place p =
     simp (first-none (record_fault place p) p.records no_record, failed) (
@@ -62,7 +61,7 @@ pub records_said
     : (h : Header) (f : File)
     → f.used ≤ f.limit
     → length f.table ≡ suc f.limit
-    → first_of (record_fault_in h) 1 (pages_in_use f) ≡ none ↔ ((x : ℕ) → PageNo f x → RecordsOk (page_at f x))
+    → first_of (record_fault_in h) 1 (pages_in_use f) ≡ None ↔ ((x : ℕ) → PageNo f x → RecordsOk (page_at f x))
 unfolding record_fault_in
 records_said h f within size =
     simp (first_in_use f within size, page-records) Iff.rfl

@@ -1,11 +1,10 @@
 -- Row 8 needs no test of its own for a call that is earlier in the page: with that test beside it, it finds the same place, since up to there calls
 -- would have to rise.
-use Rattle.std.specs.Prelude.{ℕ, zero, suc, ◌<◌, ◌≤◌, ◌≡◌, refl, List, [], ◌∷◌, Bool, true, ◌||◌, length, get_or, take}
+use Rattle.std.specs.Prelude.{ℕ, zero, suc, ◌<◌, ◌≤◌, ◌≡◌, refl, List, [], ◌∷◌, Bool, true, ◌||◌, length, get_or, take, Option, None}
 use Rattle.std.proofs.Math.Path.{ap}
 use Rattle.std.proofs.Common.{◌∙◌, arith}
 use Rattle.std.proofs.Math.Logic.{by_cases}
 use Rattle.std.proofs.Math.Bool.{false}
-use Rattle.std.proofs.Math.Option.{Option, none}
 use Rattle.std.proofs.Math.Decide.{ℕ_discrete}
 use Rattle.spec.specs.declared.Rec.{Rec}
 use Rattle.spec.specs.Basics.{when, first_of}
@@ -27,7 +26,7 @@ climbs : (rs : List Rec) (i : ℕ) → Climb rs i → (get_or rs 0 no_record).ca
 climbs rs zero h = omega arith
 climbs rs (suc i) h = let l = h i (omega arith) in let ih = climbs rs i (λ k u. h k (omega arith)) in omega arith
 
-none_earlier : (rs : List Rec) (i : ℕ) → i < length rs → Climb rs i → find_in (take i rs) (get_or rs i no_record).call ≡ none
+none_earlier : (rs : List Rec) (i : ℕ) → i < length rs → Climb rs i → find_in (take i rs) (get_or rs i no_record).call ≡ None
 none_earlier [] i l h = absurd (omega arith)
 none_earlier (r ∷ rs) zero l h = find_nil _
 none_earlier (r ∷ rs) (suc i) l h =
@@ -58,7 +57,7 @@ module _ (place : ℕ) (p : Page) where
   same_fault
       : (k : ℕ)
       → k < length p.records
-      → ((q : ℕ) → q < k → earlier_fault place p q (at q) ≡ none)
+      → ((q : ℕ) → q < k → earlier_fault place p q (at q) ≡ None)
       → earlier_fault place p k (at k) ≡ record_fault place p k (at k)
   unfolding earlier_fault earlier_too record_fault is_some
   same_fault k l before =

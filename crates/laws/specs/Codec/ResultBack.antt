@@ -1,10 +1,9 @@
 -- A result that is written comes back when it is read, also with other bytes behind it: read_result (encode_result r ++ post) is r.
-use Rattle.std.specs.Prelude.{ℕ, ◌+◌, ◌-◌, ◌^◌, ◌<◌, ◌≤◌, ◌≡◌, drop}
+use Rattle.std.specs.Prelude.{ℕ, ◌+◌, ◌-◌, ◌^◌, ◌<◌, ◌≤◌, ◌≡◌, drop, Option, None, Some}
 use Rattle.std.proofs.Math.Path.{refl, ap}
 use Rattle.std.proofs.Common.{sym, ◌∙◌, length-append, drop_at, eq-eqb, ne_eqb}
 use Rattle.std.proofs.Math.Logic.{by_cases}
 use mathlib.Core.List.{List, [], ◌++◌, map, append_assoc}
-use Rattle.std.proofs.Math.Option.{Option, none, some}
 use native.Mathlib.Omega.{arith}
 use Rattle.std.proofs.Math.Decide.{ℕ_discrete}
 use Rattle.std.proofs.Math.ListN.{length, take}
@@ -46,7 +45,7 @@ pub record ResultFits (m : ℕ) (r : Result) : Type 0 where
   pub answers : Each ToldFits r.answers
   pub lines : length r.log ≤ max_ops
   pub log : Each LineFits r.log
-  pub file : (f : List ℕ) → r.file ≡ some f → job_fault f ≡ none
+  pub file : (f : List ℕ) → r.file ≡ Some f → job_fault f ≡ None
 
 -- one by one
 page_back : (a : Told) → ToldFits a → page_told a.code (page_byte a) ≡ a.page
@@ -82,10 +81,10 @@ section_back dec enc size {at = at} xs before after wide back start e =
     ap (map dec) (section enc size before after (every wide xs) refl start e) ∙ map_back dec enc back
 
 -- no charge file is longer than the longest job
-file-length : (o : Option (List ℕ)) → ((f : List ℕ) → o ≡ some f → job_fault f ≡ none) → length (file_bytes o) ≤ longest
+file-length : (o : Option (List ℕ)) → ((f : List ℕ) → o ≡ Some f → job_fault f ≡ None) → length (file_bytes o) ≤ longest
 unfolding file_bytes
-file-length none h = omega arith
-file-length (some f) h = let s = accepted_header f (h f refl) in omega (arith, s.laid.size, total_most (header_of f) s.limits)
+file-length None h = omega arith
+file-length (Some f) h = let s = accepted_header f (h f refl) in omega (arith, s.laid.size, total_most (header_of f) s.limits)
 
 -- the header of the bytes b is that of the result r
 pub record HeaderTells (b : List ℕ) (r : Result) : Type 0 where
@@ -154,8 +153,8 @@ module _ (m : ℕ) (r : Result) (most : m ≤ max_ops) (fits : ResultFits m r) (
 
   field_small : (o : Option (List ℕ)) → offset_field o file_start < 2 ^ 32
   unfolding offset_field
-  field_small none = omega arith
-  field_small (some f) = omega (arith, file-small)
+  field_small None = omega arith
+  field_small (Some f) = omega (arith, file-small)
 
   pub header_back : HeaderTells bytes r
   unfolding result_header long word byte four two
@@ -186,7 +185,7 @@ module _ (m : ℕ) (r : Result) (most : m ≤ max_ops) (fits : ResultFits m r) (
       (section_back line_of line_bytes 4 r.log (H ++ A) (F ++ post) length_line (each_imp line_back fits.log) to_log (header_first ∙ simp append_assoc))
 
   -- no charge file, and a charge file: its bytes stand from its offset to the total
-  pub unfiled : r.file ≡ none → long bytes file_offset_at ≡ 0
+  pub unfiled : r.file ≡ None → long bytes file_offset_at ≡ 0
   unfolding offset_field
   unfiled e = header_back.file ∙ ap (λ o. offset_field o file_start) e
 
@@ -199,7 +198,7 @@ module _ (m : ℕ) (r : Result) (most : m ≤ max_ops) (fits : ResultFits m r) (
   to_end : length bytes ≡ file_start + length F + length post
   to_end = ap length file_behind ∙ rw (length-append, to_file, length-append) (omega arith)
 
-  pub filed : (f : List ℕ) → r.file ≡ some f → Filed bytes f
+  pub filed : (f : List ℕ) → r.file ≡ Some f → Filed bytes f
   unfolding file_part offset_field file_bytes file_offset log_offset
   filed f e =
       let at : long bytes file_offset_at ≡ file_start = header_back.file ∙ ap (λ o. offset_field o file_start) e in
@@ -214,8 +213,8 @@ module _ (m : ℕ) (r : Result) (most : m ≤ max_ops) (fits : ResultFits m r) (
 
   file_back : (o : Option (List ℕ)) → r.file ≡ o → file_in bytes ≡ o
   unfolding file_in if
-  file_back none e = rw (eq-eqb (long bytes file_offset_at) 0 (unfiled e))
-  file_back (some f) e = let k = filed f e in rw (ne_eqb (long bytes file_offset_at) 0 k.there, k.part)
+  file_back None e = rw (eq-eqb (long bytes file_offset_at) 0 (unfiled e))
+  file_back (Some f) e = let k = filed f e in rw (ne_eqb (long bytes file_offset_at) 0 k.there, k.part)
 
   -- WHAT IS WRITTEN COMES BACK
   pub result_back : read_result bytes ≡ r

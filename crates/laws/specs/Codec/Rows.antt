@@ -1,6 +1,5 @@
 -- A job is accepted exactly if no row about its bytes holds; and what rows 1 to 4, the rows about the header, say where they do not hold.
-use Rattle.std.specs.Prelude.{ℕ, suc, ◌^◌, ◌≤◌, ◌≡◌, ◌↔◌, List, length}
-use Rattle.std.proofs.Math.Option.{none}
+use Rattle.std.specs.Prelude.{ℕ, suc, ◌^◌, ◌≤◌, ◌≡◌, ◌↔◌, List, length, None}
 use Rattle.std.proofs.Common.{arith}
 use Rattle.std.proofs.lemmas.List.{length-map}
 use Rattle.spec.specs.Bytes.{word, long}
@@ -12,19 +11,19 @@ use Rattle.laws.specs.Codec.Parts.{length-parts}
 
 -- no row holds
 pub record Rows (b : List ℕ) : Type 0 where
-  pub r1 : short b ≡ none
-  pub r2 : wrong_version b ≡ none
-  pub r3 : over_limit b ≡ none
-  pub r4 : wrong_offset b ≡ none
-  pub r5 : wrong_entry b ≡ none
+  pub r1 : short b ≡ None
+  pub r2 : wrong_version b ≡ None
+  pub r3 : over_limit b ≡ None
+  pub r4 : wrong_offset b ≡ None
+  pub r5 : wrong_entry b ≡ None
   -- 12, 6 and 13
-  pub r6 : wrong_page b ≡ none
-  pub r7 : wrong_owner b ≡ none
-  pub r8 : wrong_record b ≡ none
-  pub r9 : wrong_op b ≡ none
-  pub r10 : wrong_turn b ≡ none
+  pub r6 : wrong_page b ≡ None
+  pub r7 : wrong_owner b ≡ None
+  pub r8 : wrong_record b ≡ None
+  pub r9 : wrong_op b ≡ None
+  pub r10 : wrong_turn b ≡ None
 
-pub accepted-rows : (b : List ℕ) → job_fault b ≡ none ↔ Rows b
+pub accepted-rows : (b : List ℕ) → job_fault b ≡ None ↔ Rows b
 unfolding job_fault
 accepted-rows b = simp (row-none, row_end, numbered-none) (λ e. search, λ r. search)
 
@@ -37,7 +36,7 @@ pub record Limits (h : Header) : Type 0 where
   pub ops : h.ops ≤ max_ops
   pub turns : h.turns ≤ max_turns
 
-pub limits_said : (b : List ℕ) → over_limit b ≡ none ↔ Limits (header_of b)
+pub limits_said : (b : List ℕ) → over_limit b ≡ None ↔ Limits (header_of b)
 unfolding over_limit
 limits_said b = simp (failed, among_none, among_end) (omega arith)
 
@@ -52,7 +51,7 @@ pub record Laid (b : List ℕ) : Type 0 where
   pub whole : long b total_at ≡ total (header_of b)
   pub size : length b ≡ total (header_of b)
 
-pub header_said : (b : List ℕ) → (short b ≡ none) × (wrong_version b ≡ none) × (wrong_offset b ≡ none) ↔ Laid b
+pub header_said : (b : List ℕ) → (short b ≡ None) × (wrong_version b ≡ None) × (wrong_offset b ≡ None) ↔ Laid b
 unfolding short wrong_version wrong_offset
 header_said b = simp (failed, among_none, among_end) (omega arith)
 
@@ -79,7 +78,7 @@ pub record HeaderSays (b : List ℕ) : Type 0 where
   pub laid : Laid b
   pub counts : Counted b
 
-pub accepted_header : (b : List ℕ) → job_fault b ≡ none → HeaderSays b
+pub accepted_header : (b : List ℕ) → job_fault b ≡ None → HeaderSays b
 accepted_header b e =
     let rows = (accepted-rows b).0 e in
     record { limits = (limits_said b).0 rows.r3; laid = (header_said b).0 (rows.r1, rows.r2, rows.r4); counts = counted b }

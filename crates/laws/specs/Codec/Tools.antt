@@ -1,12 +1,12 @@
 -- What it says that a test does not hold, and the members of a list: facts about Bool, Option and List that the laws of the bytes share.
 -- Each fact about a test is an `↔`, so that `simp failed` says what it means that a row of the refusal table does not hold, either way round.
 use Rattle.std.proofs.Math.Logic.Iff
-use Rattle.std.specs.Prelude.{ℕ, zero, suc, ◌<◌, ◌≤◌, ◌≡◌, refl, ◌↔◌, List, [], ◌∷◌, ◌++◌, map, Bool, true, false, not, ◌&&◌, ◌||◌, length, get_or, ltb, leb, eqb}
+use Rattle.std.specs.Prelude.{ℕ, zero, suc, ◌<◌, ◌≤◌, ◌≡◌, refl, ◌↔◌, List, [], ◌∷◌, ◌++◌, map, Bool, true, false, not, ◌&&◌, ◌||◌, length, get_or, ltb, leb, eqb, Option, None, Some}
 use Rattle.std.proofs.Common.{sym, true≢false, arith, ltb-true, ltb-false, leb-false, eqb-true, lt-ltb, le-ltb, eq-eqb, ne_eqb}
 use Rattle.std.proofs.lemmas.Bool.{false≢true, eqb-false, not-true, not-false, lt-leb}
-use Rattle.std.proofs.Math.Option.{Option, none, some, none-ne-some}
+use Rattle.std.proofs.lemmas.Option.{none-some}
 use Rattle.spec.specs.Basics.{when, or_else, among, Each, end, next}
-use Rattle.spec.specs.Check.{outside, numbered, Refusal, first_row}
+use Rattle.spec.specs.Check.{outside, numbered, TableRow, first_row}
 use Rattle.laws.specs.Tools.{first, rest, each_at}
 
 -- tests
@@ -50,55 +50,55 @@ unfolding outside
 outside_no least most n = simp (or_no, ltb_no) Iff.rfl
 
 -- places that are not there
-pub when-none : (t : Bool) (p : ℕ) → when t p ≡ none ↔ t ≡ false
+pub when-none : (t : Bool) (p : ℕ) → when t p ≡ None ↔ t ≡ false
 unfolding when
-when-none true p = (λ e. absurd (none-ne-some _ (sym e)), λ e. absurd (true≢false e))
+when-none true p = (λ e. absurd (none-some _ (sym e)), λ e. absurd (true≢false e))
 when-none false p = (λ e. refl, λ e. refl)
 
-pub when-some : (t : Bool) (p q : ℕ) → when t p ≡ some q → p ≡ q
+pub when-some : (t : Bool) (p q : ℕ) → when t p ≡ Some q → p ≡ q
 unfolding when
 when-some true p q e = cc
-when-some false p q e = absurd (none-ne-some _ e)
+when-some false p q e = absurd (none-some _ e)
 
-pub or_else_none : {A : Type 0} (x y : Option A) → or_else x y ≡ none ↔ (x ≡ none) × (y ≡ none)
+pub or_else_none : {A : Type 0} (x y : Option A) → or_else x y ≡ None ↔ (x ≡ None) × (y ≡ None)
 unfolding or_else
-or_else_none none y = (λ e. (refl, e), λ e. e.1)
-or_else_none (some a) y = (λ e. absurd (none-ne-some _ (sym e)), λ e. e.0)
+or_else_none None y = (λ e. (refl, e), λ e. e.1)
+or_else_none (Some a) y = (λ e. absurd (none-some _ (sym e)), λ e. e.0)
 
-pub or_else_end : {A : Type 0} (x : Option A) → or_else x none ≡ x
+pub or_else_end : {A : Type 0} (x : Option A) → or_else x None ≡ x
 unfolding or_else
-or_else_end none = refl
-or_else_end (some a) = refl
+or_else_end None = refl
+or_else_end (Some a) = refl
 
 pub or_else_assoc : {A : Type 0} (x y z : Option A) → or_else x (or_else y z) ≡ or_else (or_else x y) z
 unfolding or_else
-or_else_assoc none y z = refl
-or_else_assoc (some a) y z = refl
+or_else_assoc None y z = refl
+or_else_assoc (Some a) y z = refl
 
-pub among_none : (x : Option ℕ) (xs : List (Option ℕ)) → among (x ∷ xs) ≡ none ↔ (x ≡ none) × (among xs ≡ none)
+pub among_none : (x : Option ℕ) (xs : List (Option ℕ)) → among (x ∷ xs) ≡ None ↔ (x ≡ None) × (among xs ≡ None)
 unfolding among
 among_none x xs = or_else_none x (among xs)
 
-pub among_end : among [] ≡ none ↔ Unit {0}
+pub among_end : among [] ≡ None ↔ Unit {0}
 unfolding among
 among_end = (λ e. tt, λ u. refl)
 
-pub numbered-none : (n : ℕ) (x : Option ℕ) → numbered n x ≡ none ↔ x ≡ none
+pub numbered-none : (n : ℕ) (x : Option ℕ) → numbered n x ≡ None ↔ x ≡ None
 unfolding numbered
-numbered-none n none = (λ e. refl, λ e. refl)
-numbered-none n (some p) = (λ e. absurd (none-ne-some _ (sym e)), λ e. absurd (none-ne-some _ (sym e)))
+numbered-none n None = (λ e. refl, λ e. refl)
+numbered-none n (Some p) = (λ e. absurd (none-some _ (sym e)), λ e. absurd (none-some _ (sym e)))
 
-pub row-none : (r : Refusal) (rs : List Refusal) (b : List ℕ) → first_row (r ∷ rs) b ≡ none ↔ (r b ≡ none) × (first_row rs b ≡ none)
+pub row-none : (r : TableRow) (rs : List TableRow) (b : List ℕ) → first_row (r ∷ rs) b ≡ None ↔ (r b ≡ None) × (first_row rs b ≡ None)
 unfolding first_row
 row-none r rs b = or_else_none (r b) (first_row rs b)
 
-pub row_end : (b : List ℕ) → first_row [] b ≡ none ↔ Unit {0}
+pub row_end : (b : List ℕ) → first_row [] b ≡ None ↔ Unit {0}
 unfolding first_row
 row_end b = (λ e. tt, λ u. refl)
 
 -- a row among others
 pub rows_split
-    : (front : List Refusal) (r : Refusal) (back : List Refusal) (b : List ℕ)
+    : (front : List TableRow) (r : TableRow) (back : List TableRow) (b : List ℕ)
     → first_row (front ++ r ∷ back) b ≡ or_else (first_row front b) (or_else (r b) (first_row back b))
 unfolding first_row or_else
 rows_split [] r back b = refl

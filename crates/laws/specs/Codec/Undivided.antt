@@ -1,14 +1,14 @@
 -- Document 01's table has one row for all faults of a page, told at the page; document 02 divides it into 12, 6 and 13. Between the two: no fault is
 -- added or lost, the faults that other rows tell stay as they are, and where the one row tells a page, one of the three tells a place in that page.
 use Rattle.std.proofs.Math.Logic.Iff
-use Rattle.std.specs.Prelude.{ℕ, ◌+◌, ◌*◌, ◌^◌, ◌<◌, ◌≤◌, ◌≡◌, refl, ◌↔◌, List, [], ◌∷◌, ◌++◌, Bool, true, false, not, ◌&&◌, ◌||◌, ltb, leb, length, take, drop}
+use Rattle.std.specs.Prelude.{ℕ, ◌+◌, ◌*◌, ◌^◌, ◌<◌, ◌≤◌, ◌≡◌, refl, ◌↔◌, List, [], ◌∷◌, ◌++◌, Bool, true, false, not, ◌&&◌, ◌||◌, ltb, leb, length, take, drop, Option, None, Some}
 use Rattle.std.proofs.Common.{sym, ◌∙◌, inl, inr, arith, length-drop}
-use Rattle.std.proofs.Math.Option.{Option, none, some, none-ne-some}
+use Rattle.std.proofs.lemmas.Option.{none-some}
 use Rattle.spec.specs.Basics.{when, or_else, among, first_of}
 use Rattle.spec.specs.Bytes.{byte, word}
 use Rattle.spec.specs.Job.{Header, record_size, page_size, page_place}
 use Rattle.spec.specs.Decode.{header_of, page_parts}
-use Rattle.spec.specs.Check.{Fault, Refusal, row, first_row, wrong_pattern, over_count, not_cleared, page_fault, wrong_page, rows, job_fault}
+use Rattle.spec.specs.Check.{Fault, TableRow, row, first_row, wrong_pattern, over_count, not_cleared, page_fault, wrong_page, rows, job_fault}
 use Rattle.laws.specs.Codec.Tools.{failed, when-some, or_else_none, numbered-none, rows_split}
 use Rattle.laws.specs.Codec.Walk.{first-same, first_both}
 use Rattle.laws.specs.Codec.Zeros.{zeros, not-zero_said}
@@ -38,15 +38,15 @@ bad_fine : (h : Header) (x : ℕ) (p : List ℕ) → bad_page h x p ≡ false �
 unfolding bad_page
 bad_fine h x p = simp failed (λ e. search, λ r. search)
 
-page_same : (h : Header) (x : ℕ) (p : List ℕ) → bad_place h x p ≡ none ↔ page_fault h x p ≡ none
+page_same : (h : Header) (x : ℕ) (p : List ℕ) → bad_place h x p ≡ None ↔ page_fault h x p ≡ None
 page_same h x p = simp (failed, bad_fine, page-fine) Iff.rfl
 
-pub pages_same : (b : List ℕ) → row 6 undivided b ≡ none ↔ wrong_page b ≡ none
+pub pages_same : (b : List ℕ) → row 6 undivided b ≡ None ↔ wrong_page b ≡ None
 unfolding undivided wrong_page
 pages_same b = simp numbered-none (first-same _ _ (page_same (header_of b)) 1 (page_parts (header_of b) b))
 
 -- the table with document 01's row 6
-abbrev pub one_row : List Refusal
+abbrev pub one_row : List TableRow
 one_row = take 5 rows ++ row 6 undivided ∷ drop 6 rows
 
 -- what is told: by the rows before, by the one row or by the three, by the rows behind
@@ -64,21 +64,21 @@ module _ (b : List ℕ) where
   unfolding job_fault
   three = rows_split (take 5 rows) wrong_page (drop 6 rows) b
 
-pub accepted_same : (b : List ℕ) → first_row one_row b ≡ none ↔ job_fault b ≡ none
+pub accepted_same : (b : List ℕ) → first_row one_row b ≡ None ↔ job_fault b ≡ None
 accepted_same b = rw (one b, three b) (simp (or_else_none, pages_same b) Iff.rfl)
 
 -- ---- THE OTHER ROWS STAY
 
 -- with p in the place of o, a fault that o does not tell stays
-kept : (x o p z : Option Fault) (f : Fault) → o ≡ none ↔ p ≡ none → (o ≡ some f → ⊥) → or_else x (or_else o z) ≡ some f → or_else x (or_else p z) ≡ some f
+kept : (x o p z : Option Fault) (f : Fault) → o ≡ None ↔ p ≡ None → (o ≡ Some f → ⊥) → or_else x (or_else o z) ≡ Some f → or_else x (or_else p z) ≡ Some f
 unfolding or_else
-kept (some g) o p z f same n e = e
-kept none none none z f same n e = e
-kept none none (some g) z f same n e = absurd (none-ne-some _ (sym (same.0 refl)))
-kept none (some g) p z f same n e = absurd (n e)
+kept (Some g) o p z f same n e = e
+kept None None None z f same n e = e
+kept None None (Some g) z f same n e = absurd (none-some _ (sym (same.0 refl)))
+kept None (Some g) p z f same n e = absurd (n e)
 
 -- a fault of another row has the number and the place that it has
-pub others_same : (b : List ℕ) (f : Fault) → (OfPage f → ⊥) → first_row one_row b ≡ some f ↔ job_fault b ≡ some f
+pub others_same : (b : List ℕ) (f : Fault) → (OfPage f → ⊥) → first_row one_row b ≡ Some f ↔ job_fault b ≡ Some f
 others_same b f other =
     let same = pages_same b in
     rw (one b, three b)
@@ -90,11 +90,11 @@ others_same b f other =
 abbrev pub Within : ℕ → ℕ → ℕ → Type 0
 Within a n p = (a ≤ p) × (p < a + n)
 
-pattern-within : (s t : Bool) (a p : ℕ) → among (when s a ∷ when t (a + 2) ∷ []) ≡ some p → Within a 4 p
+pattern-within : (s t : Bool) (a p : ℕ) → among (when s a ∷ when t (a + 2) ∷ []) ≡ Some p → Within a 4 p
 unfolding among when or_else
 pattern-within true t a p e = let z : a ≡ p = cc in (omega arith, omega arith)
 pattern-within false true a p e = let z : a + 2 ≡ p = cc in (omega arith, omega arith)
-pattern-within false false a p e = absurd (none-ne-some _ e)
+pattern-within false false a p e = absurd (none-some _ e)
 
 page-within : (h : Header) (x : ℕ) (p : List ℕ) → length p ≤ page_size h.c → Tells (λ f. Within (page_place h x) (page_size h.c) f.place) (page_fault h x p)
 unfolding wrong_pattern over_count not_cleared
@@ -106,7 +106,7 @@ page-within h x p l =
     (tells_row In 13 _ (λ q z. let w = (not-zero_said _ p q).0 z in (w.from, omega (arith, w.within))))
 
 -- where the one row tells page x, the three tell a place in page x
-pub place-within : (b : List ℕ) (a : ℕ) (f : Fault) → undivided b ≡ some a → wrong_page b ≡ some f → Within a (page_size (header_of b).c) f.place
+pub place-within : (b : List ℕ) (a : ℕ) (f : Fault) → undivided b ≡ Some a → wrong_page b ≡ Some f → Within a (page_size (header_of b).c) f.place
 unfolding undivided wrong_page page_parts
 place-within b a f =
     let h = header_of b in
@@ -114,18 +114,18 @@ place-within b a f =
     (λ x p a f l e t. rw (← when-some (bad_page h x p) (page_place h x) a e) (page-within h x p l f t)) 1 (page_parts h b) (parts-short _ _ _) a f
 
 -- with p in the place of o, a fault that only o tells gives way to one that p tells
-instead : (x o p z : Option Fault) (f : Fault) → o ≡ none ↔ p ≡ none → (x ≡ some f → ⊥) → (z ≡ some f → ⊥) → or_else x (or_else o z) ≡ some f → (o ≡ some f) × (g : Fault) × (p ≡ some g) × (or_else x (or_else p z) ≡ some g)
+instead : (x o p z : Option Fault) (f : Fault) → o ≡ None ↔ p ≡ None → (x ≡ Some f → ⊥) → (z ≡ Some f → ⊥) → or_else x (or_else o z) ≡ Some f → (o ≡ Some f) × (g : Fault) × (p ≡ Some g) × (or_else x (or_else p z) ≡ Some g)
 unfolding or_else
-instead (some g) o p z f same n m e = absurd (n e)
-instead none none p z f same n m e = absurd (m e)
-instead none (some g) none z f same n m e = absurd (none-ne-some _ (sym (same.1 refl)))
-instead none (some g) (some h) z f same n m e = (e, h, refl, refl)
+instead (Some g) o p z f same n m e = absurd (n e)
+instead None None p z f same n m e = absurd (m e)
+instead None (Some g) None z f same n m e = absurd (none-some _ (sym (same.1 refl)))
+instead None (Some g) (Some h) z f same n m e = (e, h, refl, refl)
 
 -- AND OF THE JOB: where document 01's table tells the page at place a, 12, 6 or 13 is told, at a place in that page
 pub page-told
     : (b : List ℕ) (a : ℕ)
-    → first_row one_row b ≡ some (record { number = 6; place = a })
-    → (f : Fault) × (job_fault b ≡ some f) × OfPage f × Within a (page_size (header_of b).c) f.place
+    → first_row one_row b ≡ Some (record { number = 6; place = a })
+    → (f : Fault) × (job_fault b ≡ Some f) × OfPage f × Within a (page_size (header_of b).c) f.place
 page-told b a e =
     let six : Fault = record { number = 6; place = a } in
     let w = instead (front b) (row 6 undivided b) (wrong_page b) (back b) six (pages_same b) (λ h. (front_number b six h).other refl) (λ h. (back_number b six h).other refl) (sym (one b) ∙ e) in

@@ -1,8 +1,7 @@
 -- Every proper job, written, is accepted: no row of the table holds of its bytes. A charge file is one with no operations and no turns.
-use Rattle.std.specs.Prelude.{ℕ, suc, ◌+◌, ◌-◌, ◌*◌, ◌<◌, ◌≤◌, ◌≡◌, refl, true, length, get_or}
+use Rattle.std.specs.Prelude.{ℕ, suc, ◌+◌, ◌-◌, ◌*◌, ◌<◌, ◌≤◌, ◌≡◌, refl, true, length, get_or, None}
 use Rattle.std.proofs.Common.{sym, ap, ◌∙◌, arith, drop_at}
 use mathlib.Core.List.{List, [], ◌∷◌, ◌++◌, map}
-use Rattle.std.proofs.Math.Option.{none}
 use Rattle.std.proofs.Math.ListN.{drop, length-map}
 use Rattle.spec.specs.declared.Kind.{Kind}
 use Rattle.spec.specs.declared.Kind.TheVariants.{Search, Insert, Delete}
@@ -118,11 +117,11 @@ module _ (j : Job) (P : JobProper j) where
       let t = total_most (head_of j) limits in
       rw e (header_passes (head_of j) _ (rw e at (head_back j fits)) (rw e at (length-job j s)) (omega arith))
 
-  r5 : wrong_entry (encode_job j) ≡ none
+  r5 : wrong_entry (encode_job j) ≡ None
   unfolding wrong_entry entry_at
   r5 = rw (file_back j fits) ((entries_said j.file).1 (λ e l. ok.fit.entries e (rw ok.fit.size at l)))
 
-  r6 : wrong_page (encode_job j) ≡ none
+  r6 : wrong_page (encode_job j) ≡ None
   unfolding wrong_page header_for
   r6 = rw (head_back j fits, pages-written j (sized j fits)) ((pages_said (head_of j) _).1 (λ k l. passes k (rw length-map at l)))
     where
@@ -136,32 +135,32 @@ module _ (j : Job) (P : JobProper j) where
           ((each_places ps zero_page).0 fits.file.pages k l).pattern
           (λ u. page_behind j.file k ∙ ok.unused (suc k) (λ n. omega arith)))
 
-  r7 : wrong_owner (encode_job j) ≡ none
+  r7 : wrong_owner (encode_job j) ≡ None
   unfolding wrong_owner entry_at
   r7 =
       rw (file_back j fits)
       ((owners_said j.file ok.fit).1 (λ e x l n. (ok.owner e x l n, λ (q : entry_at j.file e ≡ x). rw q at (ok.names e l))))
 
-  r8 : wrong_record (encode_job j) ≡ none
+  r8 : wrong_record (encode_job j) ≡ None
   unfolding wrong_record
   r8 =
       rw (file_back j fits)
       ((records_said _ j.file ok.fit.within ok.fit.pages).1 (λ x n. let p = ok.pages x n in record { homed = p.homed; calls_rise = p.calls_rise }))
 
-  r9 : wrong_op (encode_job j) ≡ none
+  r9 : wrong_op (encode_job j) ≡ None
   unfolding wrong_op
   r9 =
       rw (head_back j fits, ops-written j (sized j fits))
       ((ops_said _ _).1 ((each_map op_bytes j.ops).1 (each_imp op_passes P.ops)))
 
-  r10 : wrong_turn (encode_job j) ≡ none
+  r10 : wrong_turn (encode_job j) ≡ None
   unfolding wrong_turn header_for
   r10 =
       rw (head_back j fits, turns-written j (sized j fits))
       ((turns_said _ _).1 ((each_map two j.turns).1 (each_imp (λ t l. rw (number_back t (omega (arith, P.op_count))) l) P.turns)))
 
   -- A PROPER JOB IS ACCEPTED
-  pub proper_accepted : job_fault (encode_job j) ≡ none
+  pub proper_accepted : job_fault (encode_job j) ≡ None
   proper_accepted =
       let head = (header_said (encode_job j)).1 laid in
       let r3 = (limits_said (encode_job j)).1 (rw (head_back j fits) limits) in
@@ -169,7 +168,7 @@ module _ (j : Job) (P : JobProper j) where
       (record { r1 = head.0; r2 = head.1; r3 = r3; r4 = head.2; r5 = r5; r6 = r6; r7 = r7; r8 = r8; r9 = r9; r10 = r10 })
 
 -- A CHARGE FILE IS ACCEPTED, AND COMES BACK
-pub file-accepted : (f : File) → FileOk f → RecordsFit f → job_fault (encode_file f) ≡ none
+pub file-accepted : (f : File) → FileOk f → RecordsFit f → job_fault (encode_file f) ≡ None
 unfolding encode_file
 file-accepted f ok fits = proper_accepted (file_job f) (file_proper f ok fits)
 

@@ -1,10 +1,10 @@
 -- Bytes that should be zero: what it means that row 13 tells no place, and what place it tells.
 use Rattle.std.proofs.Math.Logic.Iff
-use Rattle.std.specs.Prelude.{ℕ, zero, suc, ◌+◌, ◌-◌, ◌<◌, ◌≤◌, ◌≡◌, refl, ◌↔◌, List, [], ◌∷◌, Bool, true, false, not, ◌&&◌, eqb, length, drop, replicate}
+use Rattle.std.specs.Prelude.{ℕ, zero, suc, ◌+◌, ◌-◌, ◌<◌, ◌≤◌, ◌≡◌, refl, ◌↔◌, List, [], ◌∷◌, Bool, true, false, not, ◌&&◌, eqb, length, drop, replicate, Option, None, Some}
 use Rattle.std.proofs.Common.{ap, ◌∙◌, arith}
 use Rattle.std.proofs.Math.Logic.{by_cases}
 use Rattle.std.proofs.Math.Bool.{and-eq-true_iff}
-use Rattle.std.proofs.Math.Option.{Option, none, some, none-ne-some}
+use Rattle.std.proofs.lemmas.Option.{none-some}
 use Rattle.std.proofs.Math.Decide.{ℕ_discrete, dec_lt}
 use Rattle.spec.specs.Basics.{when, or_else, first_of}
 use Rattle.spec.specs.Bytes.{byte}
@@ -17,7 +17,7 @@ zeros [] = true
 zeros (x ∷ xs) = eqb x 0 && zeros xs
 
 -- row 13
-pub not-zero-none : (a : ℕ) (s : List ℕ) → not_zero a s ≡ none ↔ zeros s ≡ true
+pub not-zero-none : (a : ℕ) (s : List ℕ) → not_zero a s ≡ None ↔ zeros s ≡ true
 unfolding not_zero first_of zeros
 not-zero-none a [] = (λ e. refl, λ e. refl)
 not-zero-none a (x ∷ s) = simp (or_else_none, failed, and-eq-true_iff, not-zero-none (suc a) s) Iff.rfl
@@ -46,16 +46,16 @@ pub record FirstSet (a : ℕ) (s : List ℕ) (p : ℕ) : Type 0 where
   pub set : byte s (p - a) ≡ 0 → ⊥
   pub before : (q : ℕ) → a ≤ q → q < p → byte s (q - a) ≡ 0
 
-first_set : (a : ℕ) (s : List ℕ) (p : ℕ) → not_zero a s ≡ some p → FirstSet a s p
+first_set : (a : ℕ) (s : List ℕ) (p : ℕ) → not_zero a s ≡ Some p → FirstSet a s p
 unfolding not_zero first_of when or_else byte
-first_set a [] p = λ e. absurd (none-ne-some _ e)
+first_set a [] p = λ e. absurd (none-some _ e)
 first_set a (x ∷ s) p = by (eqb x 0) refl (first_set (suc a) s p)
   where
     by
         : (t : Bool)
         → eqb x 0 ≡ t
-        → (not_zero (suc a) s ≡ some p → FirstSet (suc a) s p)
-        → or_else (when (not t) a) (not_zero (suc a) s) ≡ some p
+        → (not_zero (suc a) s ≡ Some p → FirstSet (suc a) s p)
+        → or_else (when (not t) a) (not_zero (suc a) s) ≡ Some p
         → FirstSet a (x ∷ s) p
     by false z later e =
         let h : a ≡ p = cc in
@@ -72,7 +72,7 @@ first_set a (x ∷ s) p = by (eqb x 0) refl (first_set (suc a) s p)
             (λ n. let k : q - a ≡ suc (q - suc a) = omega (arith, n) in rw k (w.before q (omega (arith, n)) u))
 
 -- ROW 13, WITH NO WORD OF WALKS
-pub not-zero_said : (a : ℕ) (s : List ℕ) (p : ℕ) → not_zero a s ≡ some p ↔ FirstSet a s p
+pub not-zero_said : (a : ℕ) (s : List ℕ) (p : ℕ) → not_zero a s ≡ Some p ↔ FirstSet a s p
 not-zero_said a s p = (first_set a s p, λ w. by w (not_zero a s) refl)
   where
     -- two first ones are the same
@@ -81,6 +81,6 @@ not-zero_said a s p = (first_set a s p, λ w. by w (not_zero a s) refl)
         by_cases (dec_lt q p) (λ l. absurd (v.set (w.before q v.from l)))
         (λ n. by_cases (dec_lt p q) (λ l. absurd (w.set (v.before p w.from l))) (λ m. omega (arith, n, m)))
 
-    by : FirstSet a s p → (o : Option ℕ) → not_zero a s ≡ o → not_zero a s ≡ some p
-    by w none e = absurd (w.set (zeros_byte s ((not-zero-none a s).0 e) (p - a)))
-    by w (some q) e = e ∙ ap some (alone w q (first_set a s q e))
+    by : FirstSet a s p → (o : Option ℕ) → not_zero a s ≡ o → not_zero a s ≡ Some p
+    by w None e = absurd (w.set (zeros_byte s ((not-zero-none a s).0 e) (p - a)))
+    by w (Some q) e = e ∙ ap Some (alone w q (first_set a s q e))

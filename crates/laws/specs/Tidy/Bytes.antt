@@ -1,8 +1,7 @@
 -- TIDYING OF BYTES: when a call is not refused, and that what is then written keeps all that is claimed.
-use Rattle.std.specs.Prelude.{ℕ, suc, ◌≤◌, ◌≡◌, refl, ◌↔◌, List, false, length}
+use Rattle.std.specs.Prelude.{ℕ, suc, ◌≤◌, ◌≡◌, refl, ◌↔◌, List, false, length, None}
 use Rattle.std.proofs.Math.Path.{ap}
 use Rattle.std.proofs.Common.{◌∙◌, arith}
-use Rattle.std.proofs.Math.Option.{none}
 use Rattle.spec.specs.Basics.{any_of, Each}
 use Rattle.spec.specs.Bytes.{AreBytes}
 use Rattle.spec.specs.File.{Page, File, zero_page}
@@ -47,18 +46,18 @@ no_deeper d ps =
     rw any_from_1
     (simp (any_none (λ k. is_deeper d (suc k)) ps zero_page, failed) (λ h. (each_places ps zero_page).1 h, λ h. (each_places ps zero_page).0 h))
 
-pub wanted_said : (d : ℕ) (b : List ℕ) → wrong_depth d b ≡ none ↔ Wanted d (file_of b)
+pub wanted_said : (d : ℕ) (b : List ℕ) → wrong_depth d b ≡ None ↔ Wanted d (file_of b)
 unfolding wrong_depth
 wanted_said d b = simp (failed, no_deeper) (λ h. record { most = h.0; least = h.1 }, λ w. (w.most, w.least))
 
 -- A CALL IS NOT REFUSED exactly if the file is accepted, has no operations, may have the wanted depth, and the output has room
 pub record NotRefused (room d : ℕ) (b : List ℕ) : Type 0 where
-  pub accepted : job_fault b ≡ none
+  pub accepted : job_fault b ≡ None
   pub no_ops : (header_of b).ops ≡ 0
   pub wanted : Wanted d (file_of b)
   pub enough : length (tidy_bytes d b) ≤ room
 
-pub done_said : (room d : ℕ) (b : List ℕ) → tidy_fault room d b ≡ none ↔ NotRefused room d b
+pub done_said : (room d : ℕ) (b : List ℕ) → tidy_fault room d b ≡ None ↔ NotRefused room d b
 unfolding tidy_fault ops_present small_out
 done_said room d b =
     simp (or_else_none, numbered-none, wanted_said, failed) (
@@ -84,7 +83,7 @@ joined f ok =
       no_other = only_left f ok;
     }
 
-module _ (d : ℕ) (b : List ℕ) (bytes : AreBytes b) (accepted : job_fault b ≡ none) (no_ops : (header_of b).ops ≡ 0) (w : Wanted d (file_of b)) where
+module _ (d : ℕ) (b : List ℕ) (bytes : AreBytes b) (accepted : job_fault b ≡ None) (no_ops : (header_of b).ops ≡ 0) (w : Wanted d (file_of b)) where
   abbrev f : File
   f = file_of b
 

@@ -1,9 +1,8 @@
 -- All that the laws of tidying ask of the records of two joined pages: how many, whose, what is found among them, and that their calls rise.
 -- No other file opens `merged`.
-use Rattle.std.specs.Prelude.{ℕ, ◌+◌, ◌≡◌, refl, ◌⊎◌, List, [], ◌∷◌, ◌++◌, length}
+use Rattle.std.specs.Prelude.{ℕ, ◌+◌, ◌≡◌, refl, ◌⊎◌, List, [], ◌∷◌, ◌++◌, length, None}
 use Rattle.std.proofs.Common.{sym, ◌∙◌, inl, inr, ⊎_elim, arith}
 use Rattle.std.proofs.Math.Logic.{by_cases}
-use Rattle.std.proofs.Math.Option.{none}
 use Rattle.std.proofs.Math.Decide.{ℕ_discrete}
 use Rattle.spec.specs.declared.Rec.{Rec}
 use Rattle.spec.specs.Basics.{Each}
@@ -26,13 +25,13 @@ merged_each xs [] h k = h
 merged_each xs (a ∷ ys) h k = merged_each (put_in xs a) ys (put_each xs a h (first k)) (rest k)
 
 -- of a call that the other page does not hold
-pub merged_left : (xs ys : List Rec) (k : ℕ) → find_in ys k ≡ none → find_in (merged xs ys) k ≡ find_in xs k
+pub merged_left : (xs ys : List Rec) (k : ℕ) → find_in ys k ≡ None → find_in (merged xs ys) k ≡ find_in xs k
 unfolding merged
 merged_left xs [] k h = refl
 merged_left xs (a ∷ ys) k h =
     merged_left (put_in xs a) ys k (none_tail a ys k h) ∙ put_other xs a k (λ e. none_head a ys k h (sym e))
 
-pub merged_right : (xs ys : List Rec) (k : ℕ) → NoneTwice ys → find_in xs k ≡ none → find_in (merged xs ys) k ≡ find_in ys k
+pub merged_right : (xs ys : List Rec) (k : ℕ) → NoneTwice ys → find_in xs k ≡ None → find_in (merged xs ys) k ≡ find_in ys k
 unfolding merged
 merged_right xs [] k t h = h ∙ sym (find_nil k)
 merged_right xs (a ∷ ys) k (more n t) h =
@@ -43,12 +42,12 @@ merged_right xs (a ∷ ys) k (more n t) h =
 
 -- two pages with no call in common
 abbrev pub Apart : List Rec → List Rec → Type 0
-Apart xs ys = (k : ℕ) → (find_in xs k ≡ none) ⊎ (find_in ys k ≡ none)
+Apart xs ys = (k : ℕ) → (find_in xs k ≡ None) ⊎ (find_in ys k ≡ None)
 
-head_apart : (xs : List Rec) (a : Rec) (ys : List Rec) → Apart xs (a ∷ ys) → find_in xs a.call ≡ none
+head_apart : (xs : List Rec) (a : Rec) (ys : List Rec) → Apart xs (a ∷ ys) → find_in xs a.call ≡ None
 head_apart xs a ys d = ⊎_elim (λ q. q) (λ q. absurd (none_head a ys a.call q refl)) (d a.call)
 
-tail_apart : (xs : List Rec) (a : Rec) (ys : List Rec) → find_in ys a.call ≡ none → Apart xs (a ∷ ys) → Apart (put_in xs a) ys
+tail_apart : (xs : List Rec) (a : Rec) (ys : List Rec) → find_in ys a.call ≡ None → Apart xs (a ∷ ys) → Apart (put_in xs a) ys
 tail_apart xs a ys n d k =
     by_cases (ℕ_discrete k a.call) (λ (e : k ≡ a.call). inr (rw e n))
     (λ e. ⊎_elim (λ q. inl (put_other xs a k e ∙ q)) (λ q. inr (none_tail a ys k q)) (d k))

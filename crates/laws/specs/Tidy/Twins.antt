@@ -1,9 +1,8 @@
 -- Two pages of equal depth whose patterns differ only in the last bit, joined: the page is proper if there is room, and a call is found in it
 -- as in the one of the two that it is of.
-use Rattle.std.specs.Prelude.{ℕ, suc, ◌+◌, ◌-◌, ◌*◌, ◌/◌, ◌^◌, ◌<◌, ◌≤◌, ◌≡◌, refl, length}
+use Rattle.std.specs.Prelude.{ℕ, suc, ◌+◌, ◌-◌, ◌*◌, ◌/◌, ◌^◌, ◌<◌, ◌≤◌, ◌≡◌, refl, length, Option, None, Some}
 use Rattle.std.proofs.Common.{inl, inr, arith, pow-suc}
 use Rattle.std.proofs.Math.Logic.{by_cases}
-use Rattle.std.proofs.Math.Option.{Option, none, some}
 use Rattle.std.proofs.Math.Decide.{ℕ_discrete}
 use Rattle.spec.specs.declared.Rec.{Rec}
 use Rattle.spec.specs.Basics.{Each}
@@ -18,12 +17,12 @@ use Rattle.laws.specs.Tidy.Merged.{Apart, merged-length, merged_each, merged_lef
 use Rattle.laws.specs.Tidy.Tiles.{low_half, high_half, a_half}
 
 -- a page whose calls are its own holds no other
-pub not-held : (q : Page) (k : ℕ) → Each (λ r. In q r.call) q.records → (In q k → ⊥) → find_in q.records k ≡ none
+pub not-held : (q : Page) (k : ℕ) → Each (λ r. In q r.call) q.records → (In q k → ⊥) → find_in q.records k ≡ None
 not-held q k h n = by (find_in q.records k) refl
   where
-    by : (o : Option Rec) → find_in q.records k ≡ o → o ≡ none
-    by none e = refl
-    by (some r) e = absurd (n (found_in q k r h e))
+    by : (o : Option Rec) → find_in q.records k ≡ o → o ≡ None
+    by None e = refl
+    by (Some r) e = absurd (n (found_in q k r h e))
 
 -- the two halves of pattern p of l bits
 pub record Twins (l p : ℕ) (a b : Page) : Type 0 where

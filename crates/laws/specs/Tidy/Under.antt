@@ -1,9 +1,8 @@
 -- How many of a file's records lie under a pattern. A page in which calls are found as in the file has just those of its own pattern.
-use Rattle.std.specs.Prelude.{ℕ, suc, ◌+◌, ◌*◌, ◌<◌, ◌≡◌, refl, List, [], ◌∷◌, true, false, not}
+use Rattle.std.specs.Prelude.{ℕ, suc, ◌+◌, ◌*◌, ◌<◌, ◌≡◌, refl, List, [], ◌∷◌, true, false, not, None, Some}
 use Rattle.std.proofs.Common.{sym, ◌∙◌, arith, eq-eqb, ne_eqb}
 use Rattle.std.proofs.Math.Path.{ap}
 use Rattle.std.proofs.Math.Logic.{by_cases}
-use Rattle.std.proofs.Math.Option.{none, some}
 use Rattle.std.proofs.Math.Decide.{ℕ_discrete}
 use Rattle.std.proofs.Math.ListN.{length}
 use Rattle.spec.specs.declared.Rec.{Rec}
@@ -22,12 +21,12 @@ use Rattle.laws.specs.Tidy.Kept.{Right}
 use Rattle.laws.specs.Tidy.File.{holds-once}
 
 -- a list without a call that it does not have, and without one that it has
-none_each : (rs : List Rec) (k : ℕ) → find_in rs k ≡ none → Each (λ r. is_not k r ≡ true) rs
+none_each : (rs : List Rec) (k : ℕ) → find_in rs k ≡ None → Each (λ r. is_not k r ≡ true) rs
 unfolding is_not
 none_each [] k e = end
 none_each (r ∷ rs) k e = next (ap not (ne_eqb r.call k (none_head r rs k e))) (none_each rs k (none_tail r rs k e))
 
-without_one : (rs : List Rec) (r : Rec) (k : ℕ) → NoneTwice rs → find_in rs k ≡ some r → length rs ≡ suc (length (without rs k))
+without_one : (rs : List Rec) (r : Rec) (k : ℕ) → NoneTwice rs → find_in rs k ≡ Some r → length rs ≡ suc (length (without rs k))
 unfolding without filter is_not
 without_one [] r k t e = let z : ◌≡◌ {A = ℕ} 0 1 = cc (find_nil k) in absurd (omega arith)
 without_one (a ∷ rs) r k (more n t) e =

@@ -1,8 +1,7 @@
 -- Where no operation is under way at the end, the file is proper again, and it is the result's charge file: what is written can be read back.
-use Rattle.std.specs.Prelude.{ℕ, zero, suc, ◌≤◌, ◌≡◌, refl, List, [], ◌∷◌, true, get_or}
+use Rattle.std.specs.Prelude.{ℕ, zero, suc, ◌≤◌, ◌≡◌, refl, List, [], ◌∷◌, true, get_or, Some}
 use Rattle.std.proofs.Common.{sym, ◌∙◌, arith, eq-eqb}
 use Rattle.std.proofs.lemmas.Bool.{false≢true}
-use Rattle.std.proofs.Math.Option.{some}
 use Rattle.spec.specs.declared.Op.{Op}
 use Rattle.spec.specs.declared.Stage.{Stage}
 use Rattle.spec.specs.declared.Stage.TheVariants.{NotBegun, ReadPage, Reread, Lock, Held, Split, Done}
@@ -77,6 +76,6 @@ final_ok j ok z = settled_ok j.ops (run j) w.good w.coherent w.settled (λ i p b
     w = end_whole j ok
 
 -- and it is the charge file of the result
-pub final_file : (j : Job) → (result j).unended ≡ 0 → (result j).file ≡ some (encode_file (run j).file)
+pub final_file : (j : Job) → (result j).unended ≡ 0 → (result j).file ≡ Some (encode_file (run j).file)
 unfolding result result_of file_left
 final_file j z = if-true _ _ (eq-eqb _ 0 z)

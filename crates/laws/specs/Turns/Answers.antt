@@ -1,9 +1,8 @@
 -- The replay of the log on the plain list: line for line it gives the answers of the result, and it ends with what the file holds. On the
 -- way no list has a call twice, and an insert told 7 or 8 finds its call missing and changes nothing.
-use Rattle.std.specs.Prelude.{ℕ, zero, suc, ◌+◌, ◌<◌, ◌≡◌, refl, ◌⊎◌, Bool, true, false, length, get_or, take}
+use Rattle.std.specs.Prelude.{ℕ, zero, suc, ◌+◌, ◌<◌, ◌≡◌, refl, ◌⊎◌, Bool, true, false, length, get_or, take, Option, None, Some}
 use Rattle.std.proofs.Common.{sym, ap, ◌∙◌, inl, inr, ⊎_elim, arith}
 use mathlib.Core.List.{List, [], ◌∷◌, map, tail}
-use Rattle.std.proofs.Math.Option.{Option, none, some}
 use Rattle.std.proofs.Math.ListN.{get_or-map}
 use Rattle.spec.specs.declared.Rec.{Rec}
 use Rattle.spec.specs.declared.Op.{Op}
@@ -29,16 +28,16 @@ use Rattle.laws.specs.Turns.Replay.{Runs, stop, feed, lines}
 -- the plain list asks no more of a code than whether it is 7 or 8
 hint_same : (kd : Kind) (op : Op) (o : Option Rec) (k : ℕ) (l : List Rec) → plain_step kd op o (hint k) l ≡ plain_step kd op o k l
 unfolding plain_step hint turned_down
-hint_same Search op none k l = refl
-hint_same Search op (some r) k l = refl
-hint_same Insert op none k l = two (turned_down k) refl
+hint_same Search op None k l = refl
+hint_same Search op (Some r) k l = refl
+hint_same Insert op None k l = two (turned_down k) refl
   where
-    two : (b : Bool) → turned_down k ≡ b → plain_step Insert op none (hint k) l ≡ plain_step Insert op none k l
-    two true e = ap (λ h. plain_step Insert op none h l) (if-true k 0 e)
-    two false e = ap (λ h. plain_step Insert op none h l) (if-false k 0 e) ∙ if-false _ _ refl ∙ sym (if-false _ _ e)
-hint_same Insert op (some r) k l = refl
-hint_same Delete op none k l = refl
-hint_same Delete op (some r) k l = refl
+    two : (b : Bool) → turned_down k ≡ b → plain_step Insert op None (hint k) l ≡ plain_step Insert op None k l
+    two true e = ap (λ h. plain_step Insert op None h l) (if-true k 0 e)
+    two false e = ap (λ h. plain_step Insert op None h l) (if-false k 0 e) ∙ if-false _ _ refl ∙ sym (if-false _ _ e)
+hint_same Insert op (Some r) k l = refl
+hint_same Delete op None k l = refl
+hint_same Delete op (Some r) k l = refl
 
 -- what a result tells, line for line; and the plain list, which starts as what the file held, fed a result's log
 abbrev told : List Told → List Line → List Reply
@@ -106,12 +105,12 @@ plain_twice
     → NoneTwice l
     → NoneTwice (plain_step kd op o k l).list
 unfolding plain_step without
-plain_twice Search op none k l e h = h
-plain_twice Search op (some r) k l e h = h
-plain_twice Insert op none k l e h = if_case (λ (p : Plain). NoneTwice p.list) (λ u. h) (λ u. added_twice l _ h e)
-plain_twice Insert op (some r) k l e h = h
-plain_twice Delete op none k l e h = h
-plain_twice Delete op (some r) k l e h =
+plain_twice Search op None k l e h = h
+plain_twice Search op (Some r) k l e h = h
+plain_twice Insert op None k l e h = if_case (λ (p : Plain). NoneTwice p.list) (λ u. h) (λ u. added_twice l _ h e)
+plain_twice Insert op (Some r) k l e h = h
+plain_twice Delete op None k l e h = h
+plain_twice Delete op (Some r) k l e h =
     if_case (λ (p : Plain). NoneTwice p.list) (λ u. filter_twice (is_not op.call) l h) (λ u. h)
 
 pub replay_twice
@@ -130,17 +129,17 @@ TurnedDown k = (k ≡ no_depth) ⊎ (k ≡ no_page)
 plain-refused
     : (kd : Kind) (op : Op) (o : Option Rec) (k : ℕ) (l : List Rec)
     → TurnedDown (plain_step kd op o k l).code
-    → (o ≡ none) × ((plain_step kd op o k l).list ≡ l)
+    → (o ≡ None) × ((plain_step kd op o k l).list ≡ l)
 unfolding plain_step
-plain-refused Search op none k l h = (refl, refl)
-plain-refused Search op (some r) k l h = absurd (⊎_elim (λ e. omega arith) (λ e. omega arith) h)
-plain-refused Insert op none k l h =
-    if_case (λ (p : Plain). TurnedDown p.code → (◌≡◌ {A = Option Rec} none none) × (p.list ≡ l)) (λ u h. (refl, refl))
+plain-refused Search op None k l h = (refl, refl)
+plain-refused Search op (Some r) k l h = absurd (⊎_elim (λ e. omega arith) (λ e. omega arith) h)
+plain-refused Insert op None k l h =
+    if_case (λ (p : Plain). TurnedDown p.code → (◌≡◌ {A = Option Rec} None None) × (p.list ≡ l)) (λ u h. (refl, refl))
     (λ u h. absurd (⊎_elim (λ e. omega arith) (λ e. omega arith) h))
     h
-plain-refused Insert op (some r) k l h = absurd (⊎_elim (λ e. omega arith) (λ e. omega arith) h)
-plain-refused Delete op none k l h = (refl, refl)
-plain-refused Delete op (some r) k l h =
+plain-refused Insert op (Some r) k l h = absurd (⊎_elim (λ e. omega arith) (λ e. omega arith) h)
+plain-refused Delete op None k l h = (refl, refl)
+plain-refused Delete op (Some r) k l h =
     absurd
     (if_case (λ (p : Plain). TurnedDown p.code → ⊥) (λ u. ⊎_elim (λ e. omega arith) (λ e. omega arith))
     (λ u. ⊎_elim (λ e. omega arith) (λ e. omega arith))
@@ -151,7 +150,7 @@ pub refused_at
     → (replay ops answers hs l).replies ≡ told answers hs
     → p < length hs
     → TurnedDown (get_or answers (get_or hs p no_line).op nothing_told).code
-    → (find_in (replay ops answers (take p hs) l).list (get_or ops (get_or hs p no_line).op no_op).call ≡ none)
+    → (find_in (replay ops answers (take p hs) l).list (get_or ops (get_or hs p no_line).op no_op).call ≡ None)
     × ((replay ops answers (take (suc p) hs) l).list ≡ (replay ops answers (take p hs) l).list)
 unfolding replay reply_of ask_line
 refused_at ops answers [] l p e lt c = absurd (omega arith)

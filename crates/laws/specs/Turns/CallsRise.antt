@@ -1,10 +1,10 @@
 -- Records that stand by rising call number. One more, put in its place: what is found then, what the list has, that calls still rise. What a test
 -- lets through rises too, no call is twice in such a list, and looking may stop at the first higher number.
 use Rattle.std.proofs.Math.Logic.Iff
-use Rattle.std.specs.Prelude.{ℕ, suc, ◌<◌, ◌≤◌, ◌≡◌, refl, ◌↔◌, List, [], ◌∷◌, Bool, length}
+use Rattle.std.specs.Prelude.{ℕ, suc, ◌<◌, ◌≤◌, ◌≡◌, refl, ◌↔◌, List, [], ◌∷◌, Bool, length, None, Some}
 use Rattle.std.proofs.Common.{sym, ap, ◌∙◌, arith, ltb-true, ltb-false, lt-ltb, le-ltb, eq-eqb, ne_eqb}
 use Rattle.std.proofs.Math.Logic.{by_cases}
-use Rattle.std.proofs.Math.Option.{none, some, some-injective}
+use Rattle.std.proofs.lemmas.Option.{same_Some}
 use Rattle.std.proofs.Math.Decide.{ℕ_discrete, dec_lt}
 use Rattle.spec.specs.declared.Rec.{Rec}
 use Rattle.spec.specs.Basics.{if, filter, Each, end, next, Has, here, there}
@@ -33,11 +33,11 @@ put_other (a ∷ rs) r k n =
     put_case (λ l. find_in l k ≡ find_in (a ∷ rs) k) a rs r (λ l. find-miss r (a ∷ rs) k (λ e. n (sym e)))
     (λ l. find_under a (put_in rs r) rs k (put_other rs r k n))
 
-pub put_own : (rs : List Rec) (r : Rec) → find_in rs r.call ≡ none → find_in (put_in rs r) r.call ≡ some r
+pub put_own : (rs : List Rec) (r : Rec) → find_in rs r.call ≡ None → find_in (put_in rs r) r.call ≡ Some r
 unfolding put_in
 put_own [] r h = find-hit r [] r.call refl
 put_own (a ∷ rs) r h =
-    put_case (λ l. find_in l r.call ≡ some r) a rs r (λ l. find-hit r (a ∷ rs) r.call refl)
+    put_case (λ l. find_in l r.call ≡ Some r) a rs r (λ l. find-hit r (a ∷ rs) r.call refl)
     (λ l. find-miss a (put_in rs r) r.call (none_head a rs r.call h) ∙ put_own rs r (none_tail a rs r.call h))
 
 -- what the list has
@@ -81,11 +81,11 @@ pub below_all : {k : ℕ} {r : Rec} {rs : List Rec} → CallsRise (r ∷ rs) →
 below_all h l = next l (each_imp (λ a u. omega arith) (lowest h))
 
 -- the first is found
-found_none : (r : Rec) (rs : List Rec) → find_in (r ∷ rs) r.call ≡ none → ⊥
+found_none : (r : Rec) (rs : List Rec) → find_in (r ∷ rs) r.call ≡ None → ⊥
 found_none r rs e = none_head r rs r.call e refl
 
 -- a call below all of them is not among them
-low_none : (rs : List Rec) (k : ℕ) → Each (λ a. k < a.call) rs → find_in rs k ≡ none
+low_none : (rs : List Rec) (k : ℕ) → Each (λ a. k < a.call) rs → find_in rs k ≡ None
 low_none [] k h = find_nil k
 low_none (a ∷ rs) k h = let l = first h in find-miss a rs k (λ e. omega arith) ∙ low_none rs k (rest h)
 
@@ -117,7 +117,7 @@ rise_same (x ∷ xs) (y ∷ ys) h i e =
         (λ m. absurd (found_none y ys (sym (e y.call) ∙ low_none (x ∷ xs) y.call (below_all h m))))
         (λ m.
         let q : y.call ≡ x.call = omega arith in
-        some-injective _ _ (sym (find-hit x xs x.call refl) ∙ e x.call ∙ find-hit y ys x.call q)))
+        same_Some _ _ (sym (find-hit x xs x.call refl) ∙ e x.call ∙ find-hit y ys x.call q)))
 
     tail_same
         : (x y : Rec) (xs ys : List Rec)
@@ -134,7 +134,7 @@ rise_same (x ∷ xs) (y ∷ ys) h i e =
         (λ z. sym (find-miss x xs k z) ∙ e k ∙ find-miss y ys k (λ q. z (ap (λ r. r.call) same ∙ q)))
 
 -- INSERT, SPLIT AND DELETE KEEP THE ORDER
-pub put_rise : (rs : List Rec) (r : Rec) → CallsRise rs → find_in rs r.call ≡ none → CallsRise (put_in rs r)
+pub put_rise : (rs : List Rec) (r : Rec) → CallsRise rs → find_in rs r.call ≡ None → CallsRise (put_in rs r)
 unfolding put_in
 put_rise [] r h n = rise end flat
 put_rise (a ∷ rs) r h n =
@@ -150,15 +150,15 @@ filter-rise f (r ∷ rs) h =
 
 -- ---- looking that stops at the first higher number: what it meets, for the code
 
-pub look_nil : (k : ℕ) → look_in [] k ≡ none
+pub look_nil : (k : ℕ) → look_in [] k ≡ None
 unfolding look_in
 look_nil k = refl
 
-pub look_high : (r : Rec) (rs : List Rec) (k : ℕ) → k < r.call → look_in (r ∷ rs) k ≡ none
+pub look_high : (r : Rec) (rs : List Rec) (k : ℕ) → k < r.call → look_in (r ∷ rs) k ≡ None
 unfolding look_in
 look_high r rs k l = if-true _ _ (lt-ltb _ _ l)
 
-pub look_hit : (r : Rec) (rs : List Rec) (k : ℕ) → r.call ≡ k → look_in (r ∷ rs) k ≡ some r
+pub look_hit : (r : Rec) (rs : List Rec) (k : ℕ) → r.call ≡ k → look_in (r ∷ rs) k ≡ Some r
 unfolding look_in
 look_hit r rs k e = if-false _ _ (le-ltb k r.call (omega arith)) ∙ if-true _ _ (eq-eqb _ _ e)
 
@@ -173,4 +173,4 @@ look_find [] k h = refl
 look_find (r ∷ rs) k h =
     if_case (λ o. o ≡ find_in (r ∷ rs) k)
     (λ e. sym (low_none (r ∷ rs) k (below_all h (ltb-true _ _ e))))
-    (λ e. ap (if _ (some r)) (look_find rs k (risen h)))
+    (λ e. ap (if _ (Some r)) (look_find rs k (risen h)))

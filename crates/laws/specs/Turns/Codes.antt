@@ -1,18 +1,15 @@
 -- The code of an operation goes with its stage: 0 until its moment is known, another from then on. So an answer is given once and stays, and an
 -- operation that is finished has one. And no search comes to lock a page.
-use Rattle.std.specs.Prelude.{ℕ, suc, ◌+◌, ◌^◌, ◌<◌, ◌≤◌, ◌⊎◌, List, get_or}
+use Rattle.std.specs.Prelude.{ℕ, suc, ◌+◌, ◌^◌, ◌<◌, ◌≤◌, ◌⊎◌, List, get_or, Option, None, Some}
 use Rattle.std.proofs.Math.Path.{◌≡◌, refl}
 use Rattle.std.proofs.Common.{sym, ◌∙◌, subst, ⊎_elim, get_or-set_other}
 use Rattle.std.proofs.Math.Logic.{inl, inr, by_cases}
-use Rattle.std.proofs.Math.Option.{Option, none, some}
 use native.Mathlib.Omega.{arith}
 use Rattle.std.proofs.Math.Decide.{dec_lt}
 use Rattle.std.proofs.Math.ListN.{length, length-set}
 use Rattle.std.proofs.lemmas.List.{length-replicate, get_or-replicate}
 use borrow.Author.Tests.{eqb-true, eqb-false}
 use Rattle.spec.specs.declared.Rec.{Rec}
-use Rattle.spec.specs.declared.Found.{Found}
-use Rattle.spec.specs.declared.Found.TheVariants.{Charge, Missing}
 use Rattle.spec.specs.declared.Op.{Op}
 use Rattle.spec.specs.declared.Kind.{Kind}
 use Rattle.spec.specs.declared.Kind.TheVariants.{Search, Insert, Delete}
@@ -22,11 +19,11 @@ use Rattle.spec.specs.declared.Part.{Part}
 use Rattle.spec.specs.declared.Part.TheVariants.{WriteNew, WriteEntry, UnlockNew}
 use Rattle.spec.specs.declared.Stage.{Stage}
 use Rattle.spec.specs.declared.Stage.TheVariants.{NotBegun, ReadPage, Reread, Lock, Held, Split, Done}
-use Rattle.spec.specs.File.{Page, File, zero_page, page_at, entry_at, found_of, look_into}
+use Rattle.spec.specs.File.{Page, File, zero_page, page_at, entry_at, found_of}
 use Rattle.spec.specs.Job.{no_op}
-use Rattle.spec.specs.Code.{not_yet, stored, deleted}
+use Rattle.spec.specs.Code.{not_yet, stored}
 use Rattle.spec.specs.State.{Row, State, Answer, same, Move, blank, gone, go, go_page, go_entry}
-use Rattle.spec.specs.Turn.{home_of, plan_of, goes_to, begin, looked, reread, struck, written, verified, old_written, held_turn, entries_from, split_turn, turn}
+use Rattle.spec.specs.Turn.{home_of, plan_of, goes_to, begin, looked, looked_at, reread, written, verified, old_written, held_turn, entries_from, split_turn, turn}
 use Rattle.spec.specs.Run.{table_after, file_after, code_after, moment_after, row_after, row_of, stage_of, tick, act, step, start}
 use Rattle.spec.specs.Proper.{Fit}
 use Rattle.laws.specs.Tools.{if_case}
@@ -85,9 +82,9 @@ module _ (s : State) (op : Op) (r : Row) where
   T m = Tells s op r m
 
   looked_tells : (x : ℕ) (o : Option Rec) → r.code ≡ not_yet → T (looked s op (found_of x o))
-  unfolding looked found_of code_after
-  looked_tells x none h = record { once = inr h; code = h }
-  looked_tells x (some w) h = record { once = inr h; code = λ z. omega arith }
+  unfolding looked_at code_after
+  looked_tells x None h = record { once = inr h; code = h }
+  looked_tells x (Some w) h = record { once = inr h; code = λ z. omega arith }
 
   begin_tells : (k : Kind) (x : ℕ) → op.kind ≡ k → r.code ≡ not_yet → T (go (begin k x) same)
   unfolding begin code_after
@@ -104,17 +101,11 @@ module _ (s : State) (op : Op) (r : Row) where
   decided_tells n h (to_strike e t) = record { once = inr h; code = (n, h) }
   decided_tells n h (to_split i l d u) = record { once = inr h; code = (n, h) }
 
-  struck-code : (t : ℕ) (o : Found) → code_after (struck t o) r ≡ deleted
-  unfolding struck code_after
-  struck-code t (Missing x) = refl
-  struck-code t (Charge x v) = refl
-
   written_tells : (x : ℕ) (k : Kind) (q : Page) → op.kind ≡ k → NoSearch op → r.code ≡ not_yet → T (written s op x k q)
   unfolding written code_after CodeTask
   written_tells x Search q e n h = absurd (n e)
   written_tells x Insert q e n h = record { once = inr h; code = (n, λ z. omega arith) }
-  written_tells x Delete q e n h =
-      record { once = inr h; code = (n, λ z. omega (arith, struck-code s.now (look_into s.file x op.call))) }
+  written_tells x Delete q e n h = record { once = inr h; code = (n, λ z. omega arith) }
 
   old_tells : (x : ℕ) → NoSearch op → Splits s.file op r.code x → T (old_written s op x)
   unfolding old_written code_after CodeTask

@@ -1,8 +1,7 @@
 -- What a file holds, as a list and as a look-up: what is found in the list is what is looked up, and the list has no call twice.
-use Rattle.std.specs.Prelude.{ℕ, zero, suc, ◌+◌, ◌^◌, ◌<◌, ◌≤◌, ◌≡◌, List}
+use Rattle.std.specs.Prelude.{ℕ, zero, suc, ◌+◌, ◌^◌, ◌<◌, ◌≤◌, ◌≡◌, List, None}
 use Rattle.std.proofs.Common.{sym, ap, ◌∙◌, inl, inr, arith, eq-eqb, ne_eqb}
 use Rattle.std.proofs.Math.Logic.{by_cases}
-use Rattle.std.proofs.Math.Option.{none}
 use Rattle.std.proofs.Math.Decide.{ℕ_discrete}
 use Rattle.spec.specs.declared.Rec.{Rec}
 use Rattle.spec.specs.Key.{index}
@@ -18,11 +17,11 @@ of-same : (g k : ℕ) (rs : List Rec) → find_in (of_index g (index g k) rs) k 
 unfolding of_index has_index
 of-same g k rs = filter_find _ rs k (λ r e. eq-eqb _ _ (ap (index g) e))
 
-of_other : (g j k : ℕ) (rs : List Rec) → (index g k ≡ j → ⊥) → find_in (of_index g j rs) k ≡ none
+of_other : (g j k : ℕ) (rs : List Rec) → (index g k ≡ j → ⊥) → find_in (of_index g j rs) k ≡ None
 unfolding of_index has_index
 of_other g j k rs n = filter_lost _ rs k (λ r e. ne_eqb _ _ (λ z. n (ap (index g) (sym e) ∙ z)))
 
-held_none : (n : ℕ) (f : File) (j k : ℕ) → index f.g k < j → find_in (held_from n f j) k ≡ none
+held_none : (n : ℕ) (f : File) (j k : ℕ) → index f.g k < j → find_in (held_from n f j) k ≡ None
 unfolding held_from
 held_none zero f j k l = find_nil k
 held_none (suc n) f j k l = find_right _ _ k (of_other f.g j k _ (λ e. omega arith)) ∙ held_none n f (suc j) k (omega arith)

@@ -1,7 +1,6 @@
 -- What a turn does, as a record of obligations: the file stays in order (`Coherent`), and what it holds changes only as the turn's answer says,
 -- for the operation's call alone. Definitions only.
-use Rattle.std.specs.Prelude.{ℕ, suc, ◌<◌, ◌≤◌, ◌≡◌, ◌⊎◌, List, length, get_or}
-use Rattle.std.proofs.Math.Option.{Option, none, some}
+use Rattle.std.specs.Prelude.{ℕ, suc, ◌<◌, ◌≤◌, ◌≡◌, ◌⊎◌, List, length, get_or, Option, None, Some}
 use Rattle.spec.specs.declared.Rec.{Rec}
 use Rattle.spec.specs.declared.Op.{Op}
 use Rattle.spec.specs.declared.Kind.TheVariants.{Search}
@@ -38,7 +37,7 @@ pub data Own (s : State) (st : Stage) (op : Op) (a b : Option Rec) (y : ℕ) : A
       : (x : ℕ) (r : Rec)
       → op.kind ≡ Search
       → st ≡ ReadPage x
-      → find_in (page_at s.file x).records op.call ≡ some r
+      → find_in (page_at s.file x).records op.call ≡ Some r
       → b ≡ a
       → Own s st op a b y (answer found r.charge x (found_moment s op x))
   sees_none
@@ -79,7 +78,7 @@ StartsTask st x Unlock = Unit {0}
 abbrev pub Starts : State → Op → Stage → Stage → Type 0
 Starts s op st NotBegun = Unit {0}
 Starts s op st (ReadPage y) = entry_at s.file (home_of s.file op) ≡ y
-Starts s op st (Reread x t) = (st ≡ ReadPage x) × (t ≡ s.now) × (find_in (page_at s.file x).records op.call ≡ none)
+Starts s op st (Reread x t) = (st ≡ ReadPage x) × (t ≡ s.now) × (find_in (page_at s.file x).records op.call ≡ None)
 Starts s op st (Lock x) = Unit {0}
 Starts s op st (Held x t) = StartsTask st x t
 Starts s op st (Split x b n q) = StartsPart s st b n q
@@ -87,27 +86,27 @@ Starts s op st Done = Unit {0}
 
 -- what is found in a page that is written, of a call whose entry names another page, was found there before; or no entry names the page yet
 abbrev pub Sub : File → Stage → Option PageWrite → Type 0
-Sub f st none = Unit {0}
-Sub f st (some w) =
+Sub f st None = Unit {0}
+Sub f st (Some w) =
     Unreached st w.number
     ⊎ ((k : ℕ) (r : Rec)
-    → find_in w.page.records k ≡ some r
+    → find_in w.page.records k ≡ Some r
     → (entry_at f (index f.g k) ≡ w.number → ⊥)
-    → find_in (page_at f w.number).records k ≡ some r)
+    → find_in (page_at f w.number).records k ≡ Some r)
 
 -- an entry that is written comes to name a higher page, and the page that it named does not hold the call
 abbrev pub Rises : File → Op → Option EntryWrite → Type 0
-Rises f op none = Unit {0}
-Rises f op (some w) =
+Rises f op None = Unit {0}
+Rises f op (Some w) =
     (entry_at f w.entry < w.number)
-    × (find_in (page_at f (entry_at f w.entry)).records op.call ≡ none)
+    × (find_in (page_at f (entry_at f w.entry)).records op.call ≡ None)
     × (w.entry < length f.directory)
 
 -- a turn writes a page or an entry or neither, and of the entry only one that names a page held; the file stays in order, with the operation's
 -- work as its new stage says; what is held of other calls stays, and of its own changes as the answer says;
 -- and an insert's or a delete's page is the one that the call's entry then names
 pub record Does (s : State) (op : Op) (st : Stage) (m : Move) : Type 0 where
-  pub single : (m.entry ≡ none) ⊎ (m.page ≡ none)
+  pub single : (m.entry ≡ None) ⊎ (m.page ≡ None)
   pub turns : MayTurn s.file st m.entry
   pub rises : Rises s.file op m.entry
   pub sub : Sub s.file st m.page

@@ -1,8 +1,7 @@
 -- How large the numbers are that the code keeps of each operation, before every turn: the numbers of its stage, and its moment; and that charge, page
 -- and moment are 0 before there is an answer. (Turns used: `SpentTurns`.)
-use Rattle.std.specs.Prelude.{ℕ, ◌+◌, ◌^◌, ◌<◌, ◌≤◌, ◌≡◌, refl, length, get_or, take}
+use Rattle.std.specs.Prelude.{ℕ, ◌+◌, ◌^◌, ◌<◌, ◌≤◌, ◌≡◌, refl, length, get_or, take, Option}
 use Rattle.std.proofs.Math.Logic.{by_cases}
-use Rattle.std.proofs.Math.Option.{Option}
 use Rattle.std.proofs.Common.{arith, pow_mono}
 use Rattle.std.proofs.Math.Decide.{ℕ_discrete}
 use Rattle.spec.specs.declared.Rec.{Rec}

@@ -1,10 +1,9 @@
 -- A split is worked out again from its page on each of its turns. It is each time the split that was decided on turn (d): from then on until
 -- the old page is written nobody else writes that page, since the operation holds it, and the operation itself writes only its new pages.
-use Rattle.std.specs.Prelude.{ℕ, zero, suc, ◌+◌, ◌-◌, ◌<◌, ◌≤◌, ◌≡◌, refl, List, length, get_or}
+use Rattle.std.specs.Prelude.{ℕ, zero, suc, ◌+◌, ◌-◌, ◌<◌, ◌≤◌, ◌≡◌, refl, List, length, get_or, None}
 use Rattle.std.proofs.Math.Path.{sym}
 use Rattle.std.proofs.Common.{◌∙◌, inl, arith, get_or-set_other}
 use Rattle.std.proofs.Math.Logic.{by_cases}
-use Rattle.std.proofs.Math.Option.{none}
 use Rattle.std.proofs.Math.Decide.{ℕ_discrete}
 use Rattle.spec.specs.declared.Op.{Op}
 use Rattle.spec.specs.declared.Task.{Task}
@@ -130,9 +129,9 @@ module _ (op : Op) (x b n : ℕ) (p : Grown) where
   own_frozen s Done fi h = tt
 
 -- turn (d) writes no page
-decide_page : (s : State) (op : Op) (x : ℕ) (st : Stage) → st ≡ Held x Decide → (turn s op st).page ≡ none
+decide_page : (s : State) (op : Op) (x : ℕ) (st : Stage) → st ≡ Held x Decide → (turn s op st).page ≡ None
 unfolding turn held_turn
-decide_page s op x st e = rw e (decided_case s op x (λ (m : Move). m.page ≡ none) (λ a. refl) refl (λ l u. refl) _)
+decide_page s op x st e = rw e (decided_case s op x (λ (m : Move). m.page ≡ None) (λ a. refl) refl (λ l u. refl) _)
 
 -- a turn of operation k, where operation i is under way
 module _ (ops : List Op) (s : State) (i k : ℕ) (good : Good ops s) where
@@ -143,7 +142,7 @@ module _ (ops : List Op) (s : State) (i k : ℕ) (good : Good ops s) where
   pub held-page
       : (m : Move) (y : ℕ)
       → MayPage (stage_of s k) m.page
-      → (k ≡ i → m.page ≡ none)
+      → (k ≡ i → m.page ≡ None)
       → Holds (stage_of s i) y
       → page_at (file_after m s.file) y ≡ page_at s.file y
   unfolding page_at table_after

@@ -1,8 +1,7 @@
 -- The page of a split is full on each of its turns, from turn (d) until the old page is written. So the number of its new pages is settled by
 -- the leading bits that the call shares with the page's records.
-use Rattle.std.specs.Prelude.{ℕ, zero, suc, ◌≤◌, ◌≡◌, refl, List, length, get_or}
+use Rattle.std.specs.Prelude.{ℕ, zero, suc, ◌≤◌, ◌≡◌, refl, List, length, get_or, Option, None, Some}
 use Rattle.std.proofs.Common.{sym, ◌∙◌, inl, arith}
-use Rattle.std.proofs.Math.Option.{Option, none, some}
 use Rattle.std.proofs.lemmas.Bool.{lt-leb}
 use Rattle.spec.specs.declared.Rec.{Rec}
 use Rattle.spec.specs.declared.Op.{Op}
@@ -18,7 +17,7 @@ use Rattle.spec.specs.File.{File, page_at, found_of}
 use Rattle.spec.specs.Job.{Job, no_op}
 use Rattle.spec.specs.Split.{split_count}
 use Rattle.spec.specs.State.{State, same, Move, go}
-use Rattle.spec.specs.Turn.{new_count, begin, looked, reread, written, verified, old_written, held_turn, split_turn, turn}
+use Rattle.spec.specs.Turn.{new_count, begin, looked, looked_at, reread, written, verified, old_written, held_turn, split_turn, turn}
 use Rattle.spec.specs.Run.{table_after, file_after, row_of, stage_of, step, start}
 use Rattle.spec.specs.Proper.{PageOk, Fit, FileOk}
 use Rattle.spec.specs.Claims.{state_at}
@@ -91,9 +90,9 @@ module _ (s : State) (op : Op) where
   begin-full Delete x = tt
 
   looked-full : (x : ℕ) (o : Option Rec) → After (looked s op (found_of x o))
-  unfolding looked found_of
-  looked-full x none = tt
-  looked-full x (some r) = tt
+  unfolding looked_at
+  looked-full x None = tt
+  looked-full x (Some r) = tt
 
   written-full : (x : ℕ) (k : Kind) → After (written s op x k (page_at s.file x))
   unfolding written

@@ -1,8 +1,7 @@
 -- What holds of every state of a run: page numbers are in range, locks are exclusive, plans stay as they were made. A legal move keeps that.
-use Rattle.std.specs.Prelude.{ℕ, suc, ◌+◌, ◌<◌, ◌≤◌, ◌≡◌, refl, List, length, get_or}
+use Rattle.std.specs.Prelude.{ℕ, suc, ◌+◌, ◌<◌, ◌≤◌, ◌≡◌, refl, List, length, get_or, Option, None, Some}
 use Rattle.std.proofs.Common.{sym, ◌∙◌, inl, ⊎_elim, arith, length-set, get_or-set_same, get_or-set_other}
 use Rattle.std.proofs.Math.Logic.{by_cases}
-use Rattle.std.proofs.Math.Option.{Option, none, some}
 use Rattle.std.proofs.Math.Decide.{ℕ_discrete}
 use Rattle.spec.specs.declared.Op.{Op}
 use Rattle.spec.specs.declared.Task.{Task}
@@ -55,12 +54,12 @@ Fine f op Done = Unit {0}
 
 -- a move writes only a page that its operation holds, and into an entry only the number of a page in use
 abbrev pub MayPage : Stage → Option PageWrite → Type 0
-MayPage st none = Unit {0}
-MayPage st (some w) = Holds st w.number
+MayPage st None = Unit {0}
+MayPage st (Some w) = Holds st w.number
 
 abbrev pub MayEntry : File → Option EntryWrite → Type 0
-MayEntry f none = Unit {0}
-MayEntry f (some w) = PageNo f w.number
+MayEntry f None = Unit {0}
+MayEntry f (Some w) = PageNo f w.number
 
 -- what a move must be: it locks and unlocks as its stages say, the new stage is fine, and page count, page and entry are within bounds
 pub record Legal (s : State) (op : Op) (st : Stage) (m : Move) : Type 0 where
@@ -119,18 +118,18 @@ pub page_other
     → (Holds st p → ⊥)
     → get_or (table_after w t) p zero_page ≡ get_or t p zero_page
 unfolding table_after
-page_other t st none a p n = refl
-page_other t st (some w) a p n = get_or-set_other t w.number p w.page zero_page (λ e. n (rw e a))
+page_other t st None a p n = refl
+page_other t st (Some w) a p n = get_or-set_other t w.number p w.page zero_page (λ e. n (rw e a))
 
 page-size : (t : List Page) (w : Option PageWrite) → length (table_after w t) ≡ length t
 unfolding table_after
-page-size t none = refl
-page-size t (some w) = length-set t w.number w.page
+page-size t None = refl
+page-size t (Some w) = length-set t w.number w.page
 
 entry-size : (d : List ℕ) (w : Option EntryWrite) → length (directory_after w d) ≡ length d
 unfolding directory_after
-entry-size d none = refl
-entry-size d (some w) = length-set d w.entry w.number
+entry-size d None = refl
+entry-size d (Some w) = length-set d w.entry w.number
 
 entry_other
     : (f : File) (w : Option EntryWrite)
@@ -140,8 +139,8 @@ entry_other
     → PageNo f (get_or f.directory j 0)
     → PageNo f (get_or (directory_after w f.directory) j 0)
 unfolding directory_after
-entry_other f none a j lt h = h
-entry_other f (some w) a j lt h =
+entry_other f None a j lt h = h
+entry_other f (Some w) a j lt h =
     by_cases (ℕ_discrete j w.entry) (λ e. rw (e, get_or-set_same f.directory w.entry w.number 0 (omega arith)) a)
     (λ e. rw (get_or-set_other f.directory w.entry j w.number 0 e) h)
 

@@ -1,11 +1,10 @@
 -- Every turn that an operation can use is legal; so every state of a run is good.
 use Rattle.std.proofs.Math.Logic.Iff
-use Rattle.std.specs.Prelude.{ℕ, suc, ◌+◌, ◌<◌, ◌≤◌, ◌≡◌, ◌↔◌, List, get_or, ltb}
+use Rattle.std.specs.Prelude.{ℕ, suc, ◌+◌, ◌<◌, ◌≤◌, ◌≡◌, ◌↔◌, List, get_or, ltb, Option, None, Some}
 use Rattle.std.proofs.Math.Path.{refl, ap}
 use Rattle.std.proofs.Common.{sym, ◌∙◌, ltb-true}
 use Rattle.std.proofs.Math.Logic.{inl, inr, ⊎_elim}
 use Rattle.std.proofs.Math.Bool.{true, false, true≢false}
-use Rattle.std.proofs.Math.Option.{Option, none, some}
 use native.Mathlib.Omega.{arith}
 use Rattle.std.proofs.Math.ListN.{length}
 use Rattle.std.proofs.Math.Seq.{get_or-set_other}
@@ -23,7 +22,7 @@ use Rattle.spec.specs.Basics.{if}
 use Rattle.spec.specs.File.{Page, zero_page, page_at, entry_at, found_of}
 use Rattle.spec.specs.Job.{no_op}
 use Rattle.spec.specs.State.{State, Answer, same, Move, go, go_lock, go_page}
-use Rattle.spec.specs.Turn.{home_of, entry_of, rec_of, plan_of, new_count, goes_to, begin, looked, reread, decided, written, verified, old_written, held_turn, entries_from, split_turn, turn}
+use Rattle.spec.specs.Turn.{home_of, entry_of, rec_of, plan_of, new_count, goes_to, begin, looked, looked_at, reread, decided, written, verified, old_written, held_turn, entries_from, split_turn, turn}
 use Rattle.spec.specs.Run.{table_after, file_after, stage_of, idle, step}
 use Rattle.spec.specs.Proper.{PageNo}
 use Rattle.laws.specs.Tools.{if_case}
@@ -65,9 +64,9 @@ module _ (ops : List Op) (s : State) (op : Op) (good : Good ops s) where
       }
 
   looked_legal : (x : ℕ) (o : Option Rec) → PageNo s.file x → L (ReadPage x) (looked s op (found_of x o))
-  unfolding looked found_of
-  looked_legal x none h = calm (λ p. Iff.rfl) h
-  looked_legal x (some r) h = calm (λ p. Iff.rfl) tt
+  unfolding looked_at
+  looked_legal x None h = calm (λ p. Iff.rfl) h
+  looked_legal x (Some r) h = calm (λ p. Iff.rfl) tt
 
   begin_legal : (k : Kind) (x : ℕ) → PageNo s.file x → L NotBegun (go (begin k x) same)
   unfolding begin

@@ -1,9 +1,8 @@
 -- What holds of every record of the file and of every operation's record holds of every record after any turns, and of every charge that is
 -- answered; so numbers stay as small as they came in.
 use Prim.Native.Nat.{ℕ, zero, suc, ◌-◌}
-use Rattle.std.specs.Prelude.{◌≡◌, List, ◌∷◌, Bool, not, length, get_or}
+use Rattle.std.specs.Prelude.{◌≡◌, List, ◌∷◌, Bool, not, length, get_or, Option, None, Some}
 use Rattle.std.proofs.Math.Path.{refl}
-use Rattle.std.proofs.Math.Option.{Option, none, some}
 use Rattle.spec.specs.declared.Rec.{Rec}
 use Rattle.spec.specs.declared.Op.{Op}
 use Rattle.spec.specs.declared.Kind.{Kind}
@@ -21,7 +20,7 @@ use Rattle.spec.specs.Job.{Job, no_op}
 use Rattle.spec.specs.Split.{with_bit, half, added, Grown, grow}
 use Rattle.spec.specs.Code.{stored}
 use Rattle.spec.specs.State.{Row, State, Answer, same, answer, PageWrite, Move, gone, go}
-use Rattle.spec.specs.Turn.{rec_of, plan_of, begin, looked, reread, struck, cleared, written, verified, old_written, held_turn, split_turn, turn}
+use Rattle.spec.specs.Turn.{rec_of, plan_of, begin, looked, looked_at, reread, struck, cleared, written, verified, old_written, held_turn, split_turn, turn}
 use Rattle.spec.specs.Run.{table_after, charge_after, row_after, row_of, stage_of, tick, act, step, start, run}
 use Rattle.laws.specs.Tools.{if_case, first, rest, each_or, set_all, filter_each}
 use Rattle.laws.specs.Turns.Records.{find_each}
@@ -52,8 +51,8 @@ module _ (P : Rec → Type 0) where
   EveryRecord f = (x : ℕ) → Each P (page_at f x).records
 
   abbrev PageAll : Option PageWrite → Type 0
-  PageAll none = Unit {0}
-  PageAll (some w) = Each P w.page.records
+  PageAll None = Unit {0}
+  PageAll (Some w) = Each P w.page.records
 
   -- C holds of 0, and of the charges of such records
   module _ (C : ℕ → Type 0) (none-charge : C 0) (of_rec : (r : Rec) → P r → C r.charge) where
@@ -78,9 +77,9 @@ module _ (P : Rec → Type 0) where
       begin_all Delete x = calm tt
 
       looked_all : (x : ℕ) (o : Option Rec) → find_in (page_at s.file x).records op.call ≡ o → M (looked s op (found_of x o))
-      unfolding looked found_of
-      looked_all x none e = calm tt
-      looked_all x (some r) e = calm (of_rec r (find_each _ op.call r (all x) e))
+      unfolding looked_at
+      looked_all x None e = calm tt
+      looked_all x (Some r) e = calm (of_rec r (find_each _ op.call r (all x) e))
 
       decided_all : {x : ℕ} {o : Option Rec} {m : Move} → find_in (page_at s.file x).records op.call ≡ o → Decision s op x o m → M m
       decided_all e (searching k) = calm tt
@@ -91,9 +90,8 @@ module _ (P : Rec → Type 0) where
       decided_all e (to_split i l d u) = calm tt
 
       struck_all : (x : ℕ) (o : Option Rec) → find_in (page_at s.file x).records op.call ≡ o → Charged (struck s.now (found_of x o))
-      unfolding struck found_of
-      struck_all x none e = none-charge
-      struck_all x (some r) e = of_rec r (find_each _ op.call r (all x) e)
+      struck_all x None e = none-charge
+      struck_all x (Some r) e = of_rec r (find_each _ op.call r (all x) e)
 
       written_all : (x : ℕ) (k : Kind) → M (written s op x k (page_at s.file x))
       unfolding written added cleared without
@@ -145,8 +143,8 @@ module _ (P : Rec → Type 0) where
         → (x : ℕ)
         → Each P (get_or (table_after w t) x zero_page).records
     unfolding table_after
-    pages-after t none h a x = a x
-    pages-after t (some w) h a x = set_all EachOf t w.number w.page zero_page h a x
+    pages-after t None h a x = a x
+    pages-after t (Some w) h a x = set_all EachOf t w.number w.page zero_page h a x
 
     charge-after : (z : Answer) (r : Row) → Charged z → C r.charge → C (charge_after z r)
     unfolding charge_after

@@ -1,12 +1,11 @@
 -- Which page every entry names, after a turn of the operation itself: a page that it has done with is named by every entry that its pattern
 -- begins.
 use Prim.Native.Nat.{ℕ, suc, ◌+◌, ◌-◌, ◌^◌, ◌<◌, ◌≤◌}
-use Rattle.std.specs.Prelude.{◌≡◌, refl, List, Bool, length}
+use Rattle.std.specs.Prelude.{◌≡◌, refl, List, Bool, length, Option, None, Some}
 use Rattle.std.proofs.Common.{sym, ◌∙◌, inl, arith}
 use Rattle.std.proofs.Math.Path.{ap}
 use Rattle.std.proofs.Math.Logic.{inr, ⊎_elim, by_cases}
 use Rattle.std.proofs.Math.Bool.{false}
-use Rattle.std.proofs.Math.Option.{Option, none, some}
 use Rattle.std.proofs.Math.Decide.{ℕ_discrete, dec_lt, dec_le}
 use Rattle.std.proofs.Math.ListN.{get_or}
 use Rattle.spec.specs.declared.Rec.{Rec}
@@ -23,7 +22,7 @@ use Rattle.spec.specs.Key.{index}
 use Rattle.spec.specs.File.{Page, File, zero_page, page_at, entry_at, found_of}
 use Rattle.spec.specs.Split.{added}
 use Rattle.spec.specs.State.{State, Answer, same, Move, go, go_lock, go_page, go_entry}
-use Rattle.spec.specs.Turn.{plan_of, goes_to, begin, looked, reread, decided, cleared, written, verified, old_written, held_turn, entries_from, split_turn, turn}
+use Rattle.spec.specs.Turn.{plan_of, goes_to, begin, looked, looked_at, reread, decided, cleared, written, verified, old_written, held_turn, entries_from, split_turn, turn}
 use Rattle.spec.specs.Run.{table_after, directory_after, file_after}
 use Rattle.spec.specs.Proper.{In, PageNo}
 use Rattle.laws.specs.Tools.{if_case, first}
@@ -84,9 +83,9 @@ module _ (ops : List Op) (s : State) (op : Op) (good : Good ops s) (coherent : C
   begin-keeps Delete x = pause (λ p h. h) tt
 
   looked-keeps : (x : ℕ) (o : Option Rec) → K (ReadPage x) (looked s op (found_of x o))
-  unfolding looked found_of
-  looked-keeps x none = pause (λ p h. h) tt
-  looked-keeps x (some r) = pause (λ p h. h) tt
+  unfolding looked_at
+  looked-keeps x None = pause (λ p h. h) tt
+  looked-keeps x (Some r) = pause (λ p h. h) tt
 
   decided-keeps : (x : ℕ) (r : Option Rec) → Owned f x → K (Held x Decide) (decided s op op.kind (found_of x r))
   unfolding page_at entry_at table_after directory_after

@@ -4,11 +4,10 @@ use Prim.Native.Nat.{ℕ, suc, ◌+◌, ◌-◌, ◌<◌, ◌≤◌}
 use Rattle.std.proofs.Math.Path.{◌≡◌, refl, sym, ap, subst}
 use Rattle.std.proofs.Common.{◌∙◌}
 use Rattle.std.proofs.Math.Logic.{by_cases}
-use Rattle.std.proofs.Math.Option.{Option, none, some}
+use Rattle.std.specs.Prelude.{Option, None, Some, get_or}
 use native.Mathlib.Omega.{arith}
 use Rattle.std.proofs.Math.Decide.{ℕ_discrete, dec_lt}
 use Rattle.std.proofs.Math.ListN.{length}
-use Rattle.std.specs.Prelude.{get_or}
 use Rattle.spec.specs.declared.Rec.{Rec}
 use Rattle.spec.specs.declared.Op.{Op}
 use Rattle.spec.specs.declared.Kind.TheVariants.{Search}
@@ -78,7 +77,7 @@ module _ (j : Job) where
   -- one that is to read its entry again has read page x on turn t, did not find its call there, and has read no page since, before time n
   record Missed (n i x t : ℕ) : Type 0 where
     read : Stood j i (ReadPage x) t
-    none : find_in (page_at (state_at j t).file x).records (get_or j.ops i no_op).call ≡ none
+    none : find_in (page_at (state_at j t).file x).records (get_or j.ops i no_op).call ≡ None
     last : (y u : ℕ) → u < n → Stood j i (ReadPage y) u → u ≤ t
 
   abbrev Rereads : ℕ → ℕ → Stage → Type 0
@@ -156,7 +155,7 @@ module _ {s : State} {st : Stage} {op : Op} {a b : Option Rec} {y : ℕ} where
   own_names (sees_none x t h z u e) n = absurd (n h)
   own_names (says h u w q) n = (u, refl)
 
-  own_held : {k c x m : ℕ} → Own s st op a b y (answer k c x m) → k ≡ stored → (op.kind ≡ Search → ⊥) × (b ≡ some (rec_of op))
+  own_held : {k c x m : ℕ} → Own s st op a b y (answer k c x m) → k ≡ stored → (op.kind ≡ Search → ⊥) × (b ≡ Some (rec_of op))
   own_held (sees x r h z u e) n = absurd (omega arith)
   own_held (sees_none x t h z u e) n = absurd (omega arith)
   own_held (says h u w q) n = says-stored q n
@@ -166,8 +165,8 @@ module _ {s : State} {st : Stage} {op : Op} {a b : Option Rec} {y : ℕ} where
       : {k c x m : ℕ}
       → Own s st op a b y (answer k c x m)
       → k ≡ found
-      → (st ≡ ReadPage x) × (find_in (page_at s.file x).records op.call ≡ some (record { call = op.call; charge = c }))
-  own_finds (sees x r h z u e) n = (z, u ∙ ap (λ i. some (record { call = i; charge = r.charge })) (find_has _ op.call r u).1)
+      → (st ≡ ReadPage x) × (find_in (page_at s.file x).records op.call ≡ Some (record { call = op.call; charge = c }))
+  own_finds (sees x r h z u e) n = (z, u ∙ ap (λ i. Some (record { call = i; charge = r.charge })) (find_has _ op.call r u).1)
   own_finds (sees_none x t h z u e) n = absurd (omega arith)
   own_finds (says h u w q) n = absurd (omega arith)
 
@@ -248,7 +247,7 @@ module _ (j : Job) (ok : FileOk j.file) (i : ℕ) where
         : (m : ℕ)
         → row.moment ≡ m
         → row.code ≡ stored
-        → find_in (page_at (state_at j (suc m)).file row.page).records op.call ≡ some (rec_of op)
+        → find_in (page_at (state_at j (suc m)).file row.page).records op.call ≡ Some (rec_of op)
     unfolding entry_of home_of
     told-held m e z =
         let h = own_held own z in
@@ -278,7 +277,7 @@ module _ (j : Job) (ok : FileOk j.file) (i : ℕ) where
         : row.code ≡ found
         → (t : ℕ)
         × LastRead j i row.page t
-        × (find_in (page_at (state_at j t).file row.page).records op.call ≡ some (record { call = op.call; charge = row.charge }))
+        × (find_in (page_at (state_at j t).file row.page).records op.call ≡ Some (record { call = op.call; charge = row.charge }))
     told-read e =
         let h = own_finds own e in
         (u, record { read = record { within = g.within; named = g.mine; stage = h.0 }; last = none_later }, h.1)
@@ -288,7 +287,7 @@ module _ (j : Job) (ok : FileOk j.file) (i : ℕ) where
         : (m : ℕ)
         → row.moment ≡ m
         → row.code ≡ not_found
-        → LastRead j i row.page m × (find_in (page_at (state_at j m).file row.page).records op.call ≡ none)
+        → LastRead j i row.page m × (find_in (page_at (state_at j m).file row.page).records op.call ≡ None)
     told_missed m e z =
         let h = rereads_later j u i (rereads j ok u (omega (arith, g.within)) i) row.page row.moment (own_lacks own z) in
         rw (← e) (record { read = h.read; last = λ y v r. h.last y v (omega (arith, none_later y v r)) r }, h.none)

@@ -1,9 +1,8 @@
 -- What the turns do that write nothing, and those that write one page: reading, deciding, and the writing of an insert with room or a delete.
-use Rattle.std.specs.Prelude.{ℕ, ◌<◌, ◌≤◌, ◌≡◌, List, Bool, length}
+use Rattle.std.specs.Prelude.{ℕ, ◌<◌, ◌≤◌, ◌≡◌, List, Bool, length, Option, None, Some}
 use Rattle.std.proofs.Math.Path.{refl, sym}
 use Rattle.std.proofs.Common.{◌∙◌, arith}
 use Rattle.std.proofs.Math.Logic.{inl, inr, by_cases}
-use Rattle.std.proofs.Math.Option.{Option, none, some}
 use Rattle.std.proofs.Math.Decide.{ℕ_discrete, dec_lt}
 use Rattle.std.proofs.Math.ListN.{get_or-eq_default}
 use Rattle.spec.specs.declared.Rec.{Rec}
@@ -18,7 +17,7 @@ use Rattle.spec.specs.File.{Page, File, page_at, entry_at, find_in, found_of}
 use Rattle.spec.specs.Code.{deleted}
 use Rattle.spec.specs.Split.{added}
 use Rattle.spec.specs.State.{State, Answer, same, Move, go, go_page}
-use Rattle.spec.specs.Turn.{home_of, rec_of, begin, looked, struck, cleared, written}
+use Rattle.spec.specs.Turn.{home_of, rec_of, begin, looked, looked_at, cleared, written}
 use Rattle.spec.specs.Run.{table_after, directory_after, file_after}
 use Rattle.spec.specs.Proper.{In, PageNo, PageOk}
 use Rattle.laws.specs.Turns.Prefix.{fit_32}
@@ -74,9 +73,9 @@ module _ (ops : List Op) (s : State) (op : Op) (good : Good ops s) (coherent : C
       → op.kind ≡ Search
       → find_in (page_at f x).records op.call ≡ o
       → D (ReadPage x) (looked s op (found_of x o))
-  unfolding looked found_of
-  looked_does x none e h = calm e (quiet refl) (refl, refl, h)
-  looked_does x (some r) e h = calm tt (sees x r e refl h refl) tt
+  unfolding looked_at
+  looked_does x None e h = calm e (quiet refl) (refl, refl, h)
+  looked_does x (Some r) e h = calm tt (sees x r e refl h refl) tt
 
   dir_top : (e : ℕ) → entry_at f e ≤ f.used
   unfolding entry_at
@@ -95,7 +94,7 @@ module _ (ops : List Op) (s : State) (op : Op) (good : Good ops s) (coherent : C
       → ((k : ℕ) → entry_at f (index f.g k) ≡ y → In q k)
       → ((k : ℕ) → (k ≡ op.call → ⊥) → entry_at f (index f.g k) ≡ y → find_in q.records k ≡ find_in (page_at f y).records k)
       → Own s st op (lookup f op.call) (lookup (file_after (go_page to a y q) f) op.call) (entry_at f (home_of f op)) a
-      → Sub f st (some (record { number = y; page = q }))
+      → Sub f st (Some (record { number = y; page = q }))
       → Work (file_after (go_page to a y q) f) op to
       → Starts s op st to
       → D st (go_page to a y q)
@@ -158,7 +157,7 @@ module _ (ops : List Op) (s : State) (op : Op) (good : Good ops s) (coherent : C
         → PageNo f x
         → WorkTask f op x WritePage
         → D (Held x WritePage) (written s op x k (page_at f x))
-    unfolding written added cleared struck found_of home_of
+    unfolding written added cleared home_of
     written_does Search e l w = calm tt (quiet refl) tt
     written_does Insert e l w =
         let h = w.1 e in

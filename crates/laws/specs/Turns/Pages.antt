@@ -1,9 +1,8 @@
 -- Pages as they should be: an insert with room, a split and a delete leave such pages, and the insert's record is in its own.
-use Rattle.std.specs.Prelude.{ℕ, zero, suc, ◌+◌, ◌^◌, ◌<◌, ◌≤◌, ◌*◌, ◌≡◌, refl, ◌⊎◌, ◌∷◌, Bool, true, false, not, length}
+use Rattle.std.specs.Prelude.{ℕ, zero, suc, ◌+◌, ◌^◌, ◌<◌, ◌≤◌, ◌*◌, ◌≡◌, refl, ◌⊎◌, ◌∷◌, Bool, true, false, not, length, None, Some}
 use Rattle.std.proofs.Common.{◌∙◌, inl, inr, ⊎_elim, arith, pow-suc, ltb-true, ltb-false}
 use Rattle.std.proofs.Math.Logic.{by_cases}
 use Rattle.std.proofs.Math.Bool.{not-eq-not}
-use Rattle.std.proofs.Math.Option.{none, some}
 use Rattle.std.proofs.Math.Decide.{dec_le}
 use Rattle.spec.specs.declared.Rec.{Rec}
 use Rattle.spec.specs.Basics.{Each, end, next}
@@ -24,7 +23,7 @@ pub added_ok
     → PageOk g c p
     → In p r.call
     → length p.records < c
-    → find_in p.records r.call ≡ none
+    → find_in p.records r.call ≡ None
     → PageOk g c (added p r)
 unfolding added
 added_ok g c p r h i l n =
@@ -79,7 +78,7 @@ Ready g c n p k =
 -- what an insert of r makes of page p: proper pages, and r is in its own
 pub record Made (g c : ℕ) (r : Rec) (q : Page) : Type 0 where
   pub ok : PageOk g c q
-  pub there : In q r.call → find_in q.records r.call ≡ some r
+  pub there : In q r.call → find_in q.records r.call ≡ Some r
 
 ready_half
     : (g c n : ℕ) (p : Page) (r : Rec)
@@ -109,7 +108,7 @@ pub grow_made
     → g ≤ 32
     → PageOk g c p
     → In p r.call
-    → find_in p.records r.call ≡ none
+    → find_in p.records r.call ≡ None
     → Ready g c n p r.call
     → Each (Made g c r) ((grow c n p r).old ∷ (grow c n p r).news)
 unfolding grow half added

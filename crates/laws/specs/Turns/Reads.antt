@@ -1,11 +1,10 @@
 -- What a search that has read its entry, or its page, may rely on, over the turns of others and its own: the page that it read is its entry's,
 -- or what it finds there was held when the entry was changed.
-use Rattle.std.specs.Prelude.{ℕ, suc, ◌<◌, ◌≤◌, ◌≡◌, ◌⊎◌, length, get_or, eqb}
+use Rattle.std.specs.Prelude.{ℕ, suc, ◌<◌, ◌≤◌, ◌≡◌, ◌⊎◌, length, get_or, eqb, Option, None, Some}
 use Rattle.std.proofs.Math.Path.{refl}
 use Rattle.std.proofs.Common.{sym, ap, ◌∙◌, get_or-set_other}
 use Rattle.std.proofs.Math.Logic.{inl, inr, ⊎_elim, by_cases}
 use mathlib.Core.List.{List}
-use Rattle.std.proofs.Math.Option.{Option, none, some}
 use native.Mathlib.Omega.{arith}
 use Rattle.std.proofs.Math.Decide.{ℕ_discrete, dec_lt}
 use Rattle.std.proofs.Math.Seq.{get_or-set_same, set_out}
@@ -30,7 +29,7 @@ use Rattle.laws.specs.Turns.Does.{Own, quiet, sees, sees_none, says, Coherent, U
 -- H t k: what the file held of call k before turn t. A record was seen at t: it was held before turn t and after it, and t is not before lo
 module _ (H : ℕ → ℕ → Option Rec) (lo : ℕ) where
   abbrev pub Seen : State → Op → Rec → ℕ → Type 0
-  Seen s op r t = (t < s.now) × (H t op.call ≡ some r) × (H (suc t) op.call ≡ some r) × (lo ≤ t)
+  Seen s op r t = (t < s.now) × (H t op.call ≡ Some r) × (H (suc t) op.call ≡ Some r) × (lo ≤ t)
 
   -- what a search that has read its entry, or its page, may rely on
   abbrev pub Reads : State → Op → Stage → Type 0
@@ -38,14 +37,14 @@ module _ (H : ℕ → ℕ → Option Rec) (lo : ℕ) where
   Reads s op (ReadPage x) =
       (x ≤ entry_at s.file (home_of s.file op))
       × ((r : Rec)
-      → find_in (page_at s.file x).records op.call ≡ some r
+      → find_in (page_at s.file x).records op.call ≡ Some r
       → (entry_at s.file (home_of s.file op) ≡ x → ⊥)
       → Seen s op r (changed_at s.changes (home_of s.file op) x))
       × (lo ≤ s.now)
   Reads s op (Reread x t) =
       (x ≤ entry_at s.file (home_of s.file op))
       × (t < s.now)
-      × (entry_at s.file (home_of s.file op) ≡ x → (H t op.call ≡ none) × (H (suc t) op.call ≡ none))
+      × (entry_at s.file (home_of s.file op) ≡ x → (H t op.call ≡ None) × (H (suc t) op.call ≡ None))
       × (lo ≤ t)
   Reads s op (Lock x) = Unit {0}
   Reads s op (Held x t) = Unit {0}
@@ -63,7 +62,7 @@ module _ (s : State) (op : Op) (e : ℕ) where
   record Changed (d : List ℕ) (c : List Change) : Type 0 where
     up : entry_at s.file e < get_or d e 0
     turn : changed_at c e (entry_at s.file e) ≡ s.now
-    without : find_in (page_at s.file (entry_at s.file e)).records op.call ≡ none
+    without : find_in (page_at s.file (entry_at s.file e)).records op.call ≡ None
 
   record Entry (d : List ℕ) (c : List Change) : Type 0 where
     later : (x : ℕ) → (entry_at s.file e ≡ x → ⊥) → changed_at c e x ≡ changed_at s.changes e x
@@ -71,8 +70,8 @@ module _ (s : State) (op : Op) (e : ℕ) where
 
   entry-step : (w : Option EntryWrite) → Rises s.file op w → Entry (directory_after w s.file.directory) (changes_after w s)
   unfolding directory_after changes_after changed_at entry_at
-  entry-step none h = record { later = λ x n. refl; step = inl refl }
-  entry-step (some w) h =
+  entry-step None h = record { later = λ x n. refl; step = inl refl }
+  entry-step (Some w) h =
       record {
         later = λ x n.
             if_case (λ t. t ≡ changed_at s.changes e x)
@@ -98,16 +97,16 @@ sub-page
     → Sub f st w
     → (Unreached st x → ⊥)
     → (entry_at f (index f.g k) ≡ x → ⊥)
-    → find_in (get_or (table_after w f.table) x zero_page).records k ≡ some r
-    → find_in (page_at f x).records k ≡ some r
+    → find_in (get_or (table_after w f.table) x zero_page).records k ≡ Some r
+    → find_in (page_at f x).records k ≡ Some r
 unfolding table_after page_at
-sub-page f st none x k r h u n e = e
-sub-page f st (some w) x k r h u n e =
+sub-page f st None x k r h u n e = e
+sub-page f st (Some w) x k r h u n e =
     by_cases (ℕ_discrete x w.number)
     (λ (q : x ≡ w.number).
     by_cases (dec_lt w.number (length f.table))
     (λ l.
-    let e' : find_in w.page.records k ≡ some r = rw (q, get_or-set_same f.table w.number w.page zero_page l) at e in
+    let e' : find_in w.page.records k ≡ Some r = rw (q, get_or-set_same f.table w.number w.page zero_page l) at e in
     ⊎_elim (λ a. absurd (u (rw q a))) (λ a. rw q (a k r e' (λ z. n (z ∙ sym q)))) h)
     (λ l. rw (set_out f.table w.number w.page (omega arith)) at e))
     (λ q. rw (get_or-set_other f.table w.number x w.page zero_page q) at e)
@@ -125,18 +124,18 @@ unreached_entry f op e w (fresh sp) d = w.1.2 e (rw d sp)
 
 clash
     : (f : File) (x y k k' : ℕ) (r : Rec)
-    → find_in (page_at f y).records k' ≡ none
+    → find_in (page_at f y).records k' ≡ None
     → y ≡ x
     → k ≡ k'
-    → find_in (page_at f x).records k ≡ some r
+    → find_in (page_at f x).records k ≡ Some r
     → ⊥
 clash f x y k k' r a b c e = let z : ◌≡◌ {A = ℕ} 0 1 = cc in omega arith
 
-dir_none : (d : List ℕ) (w : Option EntryWrite) (e : ℕ) → w ≡ none → get_or (directory_after w d) e 0 ≡ get_or d e 0
+dir_none : (d : List ℕ) (w : Option EntryWrite) (e : ℕ) → w ≡ None → get_or (directory_after w d) e 0 ≡ get_or d e 0
 unfolding directory_after
 dir_none d w e h = ap (λ v. get_or (directory_after v d) e 0) h
 
-page-none : (t : List Page) (w : Option PageWrite) (x : ℕ) → w ≡ none → get_or (table_after w t) x zero_page ≡ get_or t x zero_page
+page-none : (t : List Page) (w : Option PageWrite) (x : ℕ) → w ≡ None → get_or (table_after w t) x zero_page ≡ get_or t x zero_page
 unfolding table_after
 page-none t w x h = ap (λ v. get_or (table_after v t) x zero_page) h
 
@@ -166,7 +165,7 @@ module _ (H : ℕ → ℕ → Option Rec) (ops : List Op) (s : State) (i : ℕ) 
         → (Unreached (stage_of s i) x → ⊥)
         → Reads H lo s op (ReadPage x)
         → (r : Rec)
-        → find_in (page_at (file_after m f) x).records op.call ≡ some r
+        → find_in (page_at (file_after m f) x).records op.call ≡ Some r
         → (entry_at (file_after m f) (home_of f op) ≡ x → ⊥)
         → Seen H lo (act s i m) op r (changed_at (changes_after m.entry s) (home_of f op) x)
     unfolding home_of entry_at page_at
@@ -184,12 +183,12 @@ module _ (H : ℕ → ℕ → Option Rec) (ops : List Op) (s : State) (i : ℕ) 
             : entry_at f (home_of f op) ≡ x
             → (entry_at (file_after m f) (home_of f op) ≡ entry_at f (home_of f op))
             ⊎ Changed s (get_or ops i no_op) (home_of f op) (directory_after m.entry f.directory) c
-            → (m.entry ≡ none) ⊎ (m.page ≡ none)
+            → (m.entry ≡ None) ⊎ (m.page ≡ None)
             → Seen H lo (act s i m) op r (changed_at c (home_of f op) x)
         now z (inl q) g = absurd (n (q ∙ z))
         now z (inr q) (inl g) = absurd (n (dir_none f.directory m.entry (home_of f op) g ∙ z))
         now z (inr q) (inr g) =
-            let old : find_in (page_at f x).records op.call ≡ some r = rw (page-none f.table m.page x g) at e in
+            let old : find_in (page_at f x).records op.call ≡ Some r = rw (page-none f.table m.page x g) at e in
             let held = lookup_at f op.call x z ∙ old in
             let stays = d.others op.call (λ w. clash f x _ op.call _ r q.without z w old) in
             let t : changed_at c (home_of f op) x ≡ s.now = rw z at q.turn in

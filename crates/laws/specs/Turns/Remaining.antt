@@ -1,10 +1,9 @@
 -- A bound of the turns that can still be used. For each operation: what its stage has left; three turns more for each time that its entry can
 -- still change, and three where it has changed since it was read. For the file: a turn for each time that an entry can still change, and two for
 -- each page that is not in use, one to write it and one towards the unlocking. Every turn that is used takes one away, whoever uses it.
-use Rattle.std.specs.Prelude.{ℕ, suc, ◌+◌, ◌-◌, ◌*◌, ◌^◌, ◌<◌, ◌≤◌, ◌≡◌, refl, ◌⊎◌, List, false, length, get_or, replicate, eqb}
+use Rattle.std.specs.Prelude.{ℕ, suc, ◌+◌, ◌-◌, ◌*◌, ◌^◌, ◌<◌, ◌≤◌, ◌≡◌, refl, ◌⊎◌, List, false, length, get_or, replicate, eqb, Option, None, Some}
 use Rattle.std.proofs.Common.{ap, true≢false, get_or-set_same}
 use Rattle.std.proofs.Math.Logic.{inl, inr, ⊎_elim, by_cases}
-use Rattle.std.proofs.Math.Option.{Option, none, some}
 use native.Mathlib.Omega.{arith}
 use Rattle.std.proofs.Math.Decide.{ℕ_discrete}
 use borrow.Author.Tests.{eq-eqb, ltb-true}
@@ -22,7 +21,7 @@ use Rattle.spec.specs.Basics.{if}
 use Rattle.spec.specs.File.{File, page_at, entry_at, found_of}
 use Rattle.spec.specs.Job.{no_op}
 use Rattle.spec.specs.State.{State, same, EntryWrite, Move, blank, gone, go}
-use Rattle.spec.specs.Turn.{home_of, entry_of, rec_of, plan_of, new_count, begin, looked, reread, decided, written, verified, old_written, held_turn, entries_from, split_turn, turn}
+use Rattle.spec.specs.Turn.{home_of, entry_of, rec_of, plan_of, new_count, begin, looked, looked_at, reread, decided, written, verified, old_written, held_turn, entries_from, split_turn, turn}
 use Rattle.spec.specs.Proper.{Fit}
 use Rattle.spec.specs.Run.{directory_after, file_after, row_of, stage_of, idle, act, step, start}
 use Rattle.laws.specs.Tools.{if_case, if-true, if-false}
@@ -64,26 +63,26 @@ stage_left Done = 0
 
 -- the page that the operation has read in its entry, where it is to look again whether the entry names it
 unfoldable task_read : ℕ → Task → Option ℕ
-task_read x Verify = some x
-task_read x (Release y) = some y
-task_read x Decide = none
-task_read x WritePage = none
-task_read x WriteOld = none
-task_read x Unlock = none
+task_read x Verify = Some x
+task_read x (Release y) = Some y
+task_read x Decide = None
+task_read x WritePage = None
+task_read x WriteOld = None
+task_read x Unlock = None
 
 unfoldable page_read : Stage → Option ℕ
-page_read NotBegun = none
-page_read (ReadPage x) = some x
-page_read (Reread x t) = some x
-page_read (Lock x) = some x
+page_read NotBegun = None
+page_read (ReadPage x) = Some x
+page_read (Reread x t) = Some x
+page_read (Lock x) = Some x
 page_read (Held x t) = task_read x t
-page_read (Split x b n q) = none
-page_read Done = none
+page_read (Split x b n q) = None
+page_read Done = None
 
 -- three turns more, where the entry names another page by now
 unfoldable again : ℕ → Option ℕ → ℕ
-again y none = 0
-again y (some x) = if (eqb y x) 0 3
+again y None = 0
+again y (Some x) = if (eqb y x) 0 3
 
 -- how often entry e can still change, since the depth of the page that it names rises each time
 unfoldable changes_left : File → ℕ → ℕ
@@ -104,8 +103,8 @@ remaining ops s =
 
 -- how many entries a turn writes
 unfoldable wrote : Option EntryWrite → ℕ
-wrote none = 0
-wrote (some w) = 1
+wrote None = 0
+wrote (Some w) = 1
 
 -- what the operation's own turn takes away, reckoned with the entry as it was before the turn
 module _ (s : State) (op : Op) where
@@ -117,11 +116,11 @@ module _ (s : State) (op : Op) where
       stage_left m.stage + again (entry_of f op) (page_read m.stage) + 2 * (f.limit - (f.used + m.takes)) + 1
       ≤ stage_left st + again (entry_of f op) (page_read st) + 2 * (f.limit - f.used) + wrote m.entry
 
-  again_same : (y : ℕ) → again y (some y) ≡ 0
+  again_same : (y : ℕ) → again y (Some y) ≡ 0
   unfolding again
   again_same y = if-true _ _ (eq-eqb y y refl)
 
-  again_other : (y x : ℕ) → eqb y x ≡ false → again y (some x) ≡ 3
+  again_other : (y x : ℕ) → eqb y x ≡ false → again y (Some x) ≡ 3
   unfolding again
   again_other y x e = if-false _ _ e
 
@@ -132,9 +131,9 @@ module _ (s : State) (op : Op) where
   begin_paid Delete = omega (arith, again_same (entry_of f op))
 
   looked_paid : (x : ℕ) (o : Option Rec) → Paid (ReadPage x) (looked s op (found_of x o))
-  unfolding looked found_of stage_left page_read wrote again
-  looked_paid x none = omega arith
-  looked_paid x (some r) = omega arith
+  unfolding looked_at stage_left page_read wrote again
+  looked_paid x None = omega arith
+  looked_paid x (Some r) = omega arith
 
   reread_paid : (x t : ℕ) → Paid (Reread x t) (reread s op x t)
   unfolding reread stage_left page_read wrote again
@@ -154,7 +153,7 @@ module _ (s : State) (op : Op) where
   decided_paid x =
       decided_case s op x (Paid (Held x Decide)) (λ a. omega arith) (omega arith)
       (λ full fits.
-      let some : 0 < new_count f op x = rw (count-full f.c f.g (page_at f x) (rec_of op) full) (omega arith) in
+      let Some : 0 < new_count f op x = rw (count-full f.c f.g (page_at f x) (rec_of op) full) (omega arith) in
       omega arith)
 
   written_paid : (x : ℕ) (k : Kind) → Paid (Held x WritePage) (written s op x k (page_at f x))
@@ -197,8 +196,8 @@ module _ (s : State) (op : Op) where
 
 again-most : (y : ℕ) (o : Option ℕ) → again y o ≤ 3
 unfolding again
-again-most y none = omega arith
-again-most y (some x) = if_case (λ n. n ≤ 3) (λ e. omega arith) (λ e. omega arith)
+again-most y None = omega arith
+again-most y (Some x) = if_case (λ n. n ≤ 3) (λ e. omega arith) (λ e. omega arith)
 
 -- where an entry is written, it is one of the directory's, and comes to name another page
 entry-written

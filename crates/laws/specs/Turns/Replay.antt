@@ -1,11 +1,10 @@
 -- The plain list, fed the lines of a moment in order, answers as the rows do; and from one moment to the next it goes with what the file holds.
 use Prim.Native.Nat.{ℕ, zero, suc, ◌+◌, ◌<◌, ◌≤◌}
-use Rattle.std.specs.Prelude.{◌≡◌, refl, ◌⊎◌, length}
+use Rattle.std.specs.Prelude.{◌≡◌, refl, ◌⊎◌, length, Option}
 use Rattle.std.proofs.Math.Path.{sym, ap}
 use Rattle.std.proofs.Common.{◌∙◌, inr}
 use Rattle.std.proofs.Math.Logic.{inl, ⊎_elim, by_cases}
 use mathlib.Core.List.{List, [], ◌∷◌, ◌++◌}
-use Rattle.std.proofs.Math.Option.{Option}
 use native.Mathlib.Omega.{arith}
 use Rattle.std.proofs.Math.Decide.{ℕ_discrete}
 use Rattle.std.proofs.Math.ListN.{get_or}

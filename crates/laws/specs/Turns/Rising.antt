@@ -1,11 +1,10 @@
 -- Entries only rise: an entry that is changed comes to name a higher and deeper page, so it never names again a page that it left. And of a
 -- page that an entry left, as long as its pattern begins the entry: it is less deep than the page that the entry names now.
-use Rattle.std.specs.Prelude.{ℕ, zero, suc, ◌+◌, ◌-◌, ◌^◌, ◌<◌, ◌≤◌, ◌≡◌, refl, ◌⊎◌, List, [], ◌∷◌, Bool, true, false, ◌&&◌, ◌||◌, length, get_or, eqb}
+use Rattle.std.specs.Prelude.{ℕ, zero, suc, ◌+◌, ◌-◌, ◌^◌, ◌<◌, ◌≤◌, ◌≡◌, refl, ◌⊎◌, List, [], ◌∷◌, Bool, true, false, ◌&&◌, ◌||◌, length, get_or, eqb, Option, None, Some}
 use Rattle.std.proofs.Math.Path.{sym}
 use Rattle.std.proofs.Common.{◌∙◌, arith, le_refl, get_or-set_same, get_or-set_other, eqb-true, eq-eqb}
 use Rattle.std.proofs.Math.Logic.{inl, inr, ⊎_elim, by_cases}
 use Rattle.std.proofs.lemmas.Bool.{false≢true}
-use Rattle.std.proofs.Math.Option.{Option, none, some}
 use Rattle.std.proofs.Math.Decide.{ℕ_discrete, dec_lt}
 use Rattle.std.proofs.Math.Seq.{set_out}
 use Rattle.spec.specs.declared.Op.{Op}
@@ -126,8 +125,8 @@ pub page-after
     → (Unreached st x → ⊥)
     → PageAfter f x (get_or (table_after w f.table) x zero_page)
 unfolding table_after page_at
-page-after f st none x h n = same_page_lem f x _ refl refl
-page-after f st (some w) x h n =
+page-after f st None x h n = same_page_lem f x _ refl refl
+page-after f st (Some w) x h n =
     by_cases (ℕ_discrete x w.number)
     (λ (q : x ≡ w.number).
     by_cases (dec_lt w.number (length f.table))
@@ -203,8 +202,8 @@ module _ (ops : List Op) (s : State) (i : ℕ) (m : Move)
     page-kept : (e x : ℕ) → entry_at f e < entry_at f' e → page_at f' x ≡ page_at f x
     unfolding page_at entry_at table_after directory_after
     page-kept e x l =
-        ⊎_elim (λ (z : m.entry ≡ none). let q : entry_at f' e ≡ entry_at f e = rw (z, directory_after) in absurd (omega arith))
-        (λ (z : m.page ≡ none). rw (z, table_after))
+        ⊎_elim (λ (z : m.entry ≡ None). let q : entry_at f' e ≡ entry_at f e = rw (z, directory_after) in absurd (omega arith))
+        (λ (z : m.page ≡ None). rw (z, table_after))
         d.single
 
     -- the page that an entry names is as deep as the one that it named, or deeper

@@ -1,9 +1,8 @@
 -- Moves and rows. After a turn the operation's own row is as the move says and the others are as they were; a turn goes by or the operation
 -- moves; what every turn keeps holds after any turns.
-use Rattle.std.specs.Prelude.{ℕ, ◌<◌, ◌≡◌, refl, List, [], ◌∷◌, Bool, false, length, get_or, replicate}
+use Rattle.std.specs.Prelude.{ℕ, ◌<◌, ◌≡◌, refl, List, [], ◌∷◌, Bool, false, length, get_or, replicate, None}
 use Rattle.std.proofs.Common.{ap, true≢false, get_or-set_same, get_or-set_other}
 use Rattle.std.proofs.Math.Logic.{by_cases}
-use Rattle.std.proofs.Math.Option.{none}
 use Rattle.std.proofs.Math.Decide.{ℕ_discrete}
 use Rattle.spec.specs.declared.Op.{Op}
 use Rattle.spec.specs.declared.Stage.{Stage}
@@ -18,7 +17,7 @@ use Rattle.laws.specs.Tools.{if_case, within, replicate_all}
 -- a move that writes neither a page nor an entry
 abbrev pub still : Stage → Answer → ℕ → ℕ → Bool → ℕ → Move
 still st a from n v takes =
-    record { stage = st; answer = a; from = from; count = n; value = v; takes = takes; page = none; entry = none }
+    record { stage = st; answer = a; from = from; count = n; value = v; takes = takes; page = None; entry = None }
 
 -- the rows after a turn
 pub row_of_other : (s : State) (i j : ℕ) (m : Move) → (j ≡ i → ⊥) → row_of (act s i m) j ≡ row_of s j

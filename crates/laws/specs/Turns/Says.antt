@@ -1,7 +1,6 @@
 -- What an answer, code and charge, says of an operation's call: what was held of it before the answer's moment, a, and after it, b.
-use Rattle.std.specs.Prelude.{ℕ, ◌<◌, ◌≡◌, refl, ◌⊎◌, true, false}
+use Rattle.std.specs.Prelude.{ℕ, ◌<◌, ◌≡◌, refl, ◌⊎◌, true, false, Option, None, Some}
 use Rattle.std.proofs.Common.{inl, inr, ⊎_elim, arith}
-use Rattle.std.proofs.Math.Option.{Option, none, some}
 use Rattle.spec.specs.declared.Rec.{Rec}
 use Rattle.spec.specs.declared.Op.{Op}
 use Rattle.spec.specs.declared.Kind.TheVariants.{Search, Insert, Delete}
@@ -10,15 +9,15 @@ use Rattle.spec.specs.Job.{strikes}
 use Rattle.spec.specs.Turn.{rec_of}
 
 pub data Says (op : Op) (a b : Option Rec) : ℕ → ℕ → Type 0 where
-  is_found : (r : Rec) → op.kind ≡ Search → a ≡ some r → b ≡ a → Says op a b found r.charge
-  is_none : op.kind ≡ Search → a ≡ none → b ≡ a → Says op a b not_found 0
-  is_stored : op.kind ≡ Insert → a ≡ none → b ≡ some (rec_of op) → Says op a b stored op.charge
-  is_there : (r : Rec) → op.kind ≡ Insert → a ≡ some r → b ≡ a → Says op a b already_there r.charge
-  is_deleted : (r : Rec) → op.kind ≡ Delete → a ≡ some r → strikes op.charge r.charge ≡ true → b ≡ none → Says op a b deleted r.charge
-  is_absent : op.kind ≡ Delete → a ≡ none → b ≡ a → Says op a b absent 0
-  is_no_depth : op.kind ≡ Insert → a ≡ none → b ≡ a → Says op a b no_depth 0
-  is_no_page : op.kind ≡ Insert → a ≡ none → b ≡ a → Says op a b no_page 0
-  is_differing : (r : Rec) → op.kind ≡ Delete → a ≡ some r → strikes op.charge r.charge ≡ false → b ≡ a → Says op a b differs r.charge
+  is_found : (r : Rec) → op.kind ≡ Search → a ≡ Some r → b ≡ a → Says op a b found r.charge
+  is_none : op.kind ≡ Search → a ≡ None → b ≡ a → Says op a b not_found 0
+  is_stored : op.kind ≡ Insert → a ≡ None → b ≡ Some (rec_of op) → Says op a b stored op.charge
+  is_there : (r : Rec) → op.kind ≡ Insert → a ≡ Some r → b ≡ a → Says op a b already_there r.charge
+  is_deleted : (r : Rec) → op.kind ≡ Delete → a ≡ Some r → strikes op.charge r.charge ≡ true → b ≡ None → Says op a b deleted r.charge
+  is_absent : op.kind ≡ Delete → a ≡ None → b ≡ a → Says op a b absent 0
+  is_no_depth : op.kind ≡ Insert → a ≡ None → b ≡ a → Says op a b no_depth 0
+  is_no_page : op.kind ≡ Insert → a ≡ None → b ≡ a → Says op a b no_page 0
+  is_differing : (r : Rec) → op.kind ≡ Delete → a ≡ Some r → strikes op.charge r.charge ≡ false → b ≡ a → Says op a b differs r.charge
 
 -- a code is one of nine
 pub says-code : {op : Op} {a b : Option Rec} {k c : ℕ} → Says op a b k c → k < 256
@@ -52,7 +51,7 @@ says_change (is_no_page i j e) = inl e
 says_change (is_differing r i j t e) = inl e
 
 -- "stored" says that the call came to be held
-pub says-stored : {op : Op} {a b : Option Rec} {k c : ℕ} → Says op a b k c → k ≡ stored → (op.kind ≡ Search → ⊥) × (b ≡ some (rec_of op))
+pub says-stored : {op : Op} {a b : Option Rec} {k c : ℕ} → Says op a b k c → k ≡ stored → (op.kind ≡ Search → ⊥) × (b ≡ Some (rec_of op))
 says-stored (is_stored i j e) z = (λ w. let n : ◌≡◌ {A = ℕ} 0 1 = cc in omega arith, e)
 says-stored (is_found r i j e) z = absurd (omega arith)
 says-stored (is_none i j e) z = absurd (omega arith)

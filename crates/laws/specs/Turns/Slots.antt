@@ -1,11 +1,10 @@
 -- The turn on which an entry was changed from a page can be looked up by the entry and the page's depth, in a table with one number for each:
 -- as long as the page's pattern begins the entry no later change has taken its place. So the moment of a search that found a stale record is one
 -- reading. The code keeps such a table, and writes one number on each turn that writes an entry.
-use Rattle.std.specs.Prelude.{ℕ, ◌^◌, ◌<◌, ◌≡◌, refl, List, true, ◌&&◌, length, get_or, eqb}
+use Rattle.std.specs.Prelude.{ℕ, ◌^◌, ◌<◌, ◌≡◌, refl, List, true, ◌&&◌, length, get_or, eqb, Some}
 use Rattle.std.proofs.Common.{sym, ap, ◌∙◌, arith, eqb-true, eq-eqb}
 use Rattle.std.proofs.Math.Logic.{⊎_elim}
 use Rattle.std.proofs.lemmas.Bool.{false≢true, eqb-false}
-use Rattle.std.proofs.Math.Option.{some}
 use Rattle.spec.specs.declared.Rec.{Rec}
 use Rattle.spec.specs.declared.Op.{Op}
 use Rattle.spec.specs.declared.Part.{Part}
@@ -159,7 +158,7 @@ module _ (ops : List Op) (s : State) (i x : ℕ) (r : Rec) (slot : Table)
     (follows : Followed ops s)
     (h : Slots slot s)
     (reads : stage_of s i ≡ ReadPage x)
-    (found : find_in (page_at s.file x).records (get_or ops i no_op).call ≡ some r)
+    (found : find_in (page_at s.file x).records (get_or ops i no_op).call ≡ Some r)
   where
     abbrev f : File
     f = s.file

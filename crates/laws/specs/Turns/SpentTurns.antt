@@ -1,9 +1,8 @@
 -- No operation uses more turns than its kind can, under any list: what it has used is, after every turn, as its stage says.
-use Rattle.std.specs.Prelude.{ℕ, zero, suc, ◌+◌, ◌*◌, ◌<◌, ◌≤◌, ◌≡◌, List, Bool, false, length, get_or, take}
+use Rattle.std.specs.Prelude.{ℕ, zero, suc, ◌+◌, ◌*◌, ◌<◌, ◌≤◌, ◌≡◌, List, Bool, false, length, get_or, take, Option, None, Some}
 use Rattle.std.proofs.Math.Path.{refl}
 use Rattle.std.proofs.Math.Logic.{by_cases}
 use Rattle.std.proofs.Common.{true≢false, le_refl, pow_pos, pow_mono}
-use Rattle.std.proofs.Math.Option.{Option, none, some}
 use native.Mathlib.Omega.{arith}
 use Rattle.std.proofs.Math.Decide.{dec_lt}
 use Rattle.std.proofs.Math.ListN.{get_or-eq_default}
@@ -22,7 +21,7 @@ use Rattle.spec.specs.declared.Stage.TheVariants.{NotBegun, ReadPage, Reread, Lo
 use Rattle.spec.specs.File.{Page, File, zero_page, page_at, entry_at, found_of}
 use Rattle.spec.specs.Job.{Job, no_op, max_depth}
 use Rattle.spec.specs.State.{State, Answer, same, Move, gone, go}
-use Rattle.spec.specs.Turn.{home_of, entry_of, entries_from, begin, looked, reread, decided, written, verified, old_written, held_turn, split_turn, turn}
+use Rattle.spec.specs.Turn.{home_of, entry_of, entries_from, begin, looked, looked_at, reread, decided, written, verified, old_written, held_turn, split_turn, turn}
 use Rattle.spec.specs.Run.{table_after, directory_after, file_after, row_of, stage_of, idle, act, start, run}
 use Rattle.spec.specs.Proper.{FileOk}
 use Rattle.spec.specs.Claims.{state_at}
@@ -84,9 +83,9 @@ module _ (ops : List Op) (s : State) (op : Op) (good : Good ops s) (coherent : C
   begin_spent Delete e = calm (reads 1 3 (omega arith))
 
   looked_spent : (x : ℕ) (o : Option Rec) → op.kind ≡ Search → Read f op x 1 2 u → M (looked s op (found_of x o))
-  unfolding looked found_of
-  looked_spent x none e h = calm (on x 1 2 h)
-  looked_spent x (some r) e h = calm (omega (arith, h.used, h.deep, entry-g, search_within f.g op.kind e))
+  unfolding looked_at
+  looked_spent x None e h = calm (on x 1 2 h)
+  looked_spent x (Some r) e h = calm (omega (arith, h.used, h.deep, entry-g, search_within f.g op.kind e))
 
   reread_spent : (x t : ℕ) → op.kind ≡ Search → Read f op x 2 2 u → M (reread s op x t)
   unfolding reread

@@ -1,11 +1,10 @@
 -- What the turns of a split do: each new page written, each entry written, the new pages unlocked, and the old page written.
 use Prim.Native.Nat.{ℕ, suc, ◌+◌, ◌-◌, ◌^◌, ◌<◌, ◌≤◌}
-use Rattle.std.specs.Prelude.{◌≡◌, List, ◌∷◌}
+use Rattle.std.specs.Prelude.{◌≡◌, List, ◌∷◌, Some}
 use Rattle.std.proofs.Math.Path.{refl, sym}
 use Rattle.std.proofs.Common.{ap, ◌∙◌, arith}
 use Rattle.std.proofs.Math.Logic.{inl, inr, by_cases}
 use Rattle.std.proofs.Math.Bool.{false}
-use Rattle.std.proofs.Math.Option.{some}
 use Rattle.std.proofs.Math.Decide.{ℕ_discrete, dec_lt}
 use Rattle.std.proofs.Math.ListN.{length, get_or}
 use borrow.Author.Tests.{eqb-true, eqb-false, ltb-false}
@@ -82,9 +81,9 @@ module _ (ops : List Op) (s : State) (op : Op) (good : Good ops s) (coherent : C
 
         sub
             : (k : ℕ) (r : Rec)
-            → find_in (plan_of f op x).old.records k ≡ some r
+            → find_in (plan_of f op x).old.records k ≡ Some r
             → (entry_at f (index f.g k) ≡ x → ⊥)
-            → find_in (page_at f x).records k ≡ some r
+            → find_in (page_at f x).records k ≡ Some r
         sub k r u n =
             by_cases (ℕ_discrete k op.call)
             (λ (z : k ≡ op.call). absurd (n (rw z (mv.stays (rw z at (old_stays f op x good.fit (coherent.pages x) pl k i))))))

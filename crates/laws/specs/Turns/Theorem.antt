@@ -1,12 +1,11 @@
 -- DEMAND 3: every turn list of a job whose file is proper is explained by the log of its result, on the plain list. (That its charge file is that
 -- file is a matter of bytes: ReadBack.)
 use Prim.Native.Nat.{ℕ, suc, ◌<◌, ◌≤◌}
-use Rattle.std.specs.Prelude.{◌≡◌, ◌⊎◌, List, map, Bool, true, false, length, get_or}
+use Rattle.std.specs.Prelude.{◌≡◌, ◌⊎◌, List, map, Bool, true, false, length, get_or, None, Some}
 use Rattle.std.proofs.Math.Path.{refl, ap}
 use Rattle.std.proofs.Common.{sym, ◌∙◌, subst, ⊎_elim, true≢false, arith}
 use Rattle.std.proofs.Math.Logic.{by_cases}
 use Rattle.std.proofs.lemmas.Bool.{false≢true}
-use Rattle.std.proofs.Math.Option.{none, some}
 use Rattle.std.proofs.Math.Decide.{ℕ_discrete, dec_lt}
 use Rattle.std.proofs.Math.ListN.{length-map}
 use Rattle.std.proofs.Math.Seq.{take-length}
@@ -162,7 +161,7 @@ module _ (j : Job) (ok : FileOk j.file) where
       : (p : ℕ)
       → p < length (result j).log
       → ((answer_at (result j) (line_at (result j) p).op).code ≡ no_depth) ⊎ ((answer_at (result j) (line_at (result j) p).op).code ≡ no_page)
-      → (find_in (fed j (result j) p).list (op_at j (result j) p).call ≡ none) × ((fed j (result j) (suc p)).list ≡ (fed j (result j) p).list)
+      → (find_in (fed j (result j) p).list (op_at j (result j) p).call ≡ None) × ((fed j (result j) (suc p)).list ≡ (fed j (result j) p).list)
   unfolding fed answer_at
   all_refused p l c = refused_at j.ops (result j).answers (result j).log (contents j.file) p (replayed j ok).0 l c
 
@@ -170,7 +169,7 @@ module _ (j : Job) (ok : FileOk j.file) where
   pub finished-answered : (i : ℕ) → i < length j.ops → stage_of (run j) i ≡ Done → (answer_at (result j) i).code ≡ not_yet → ⊥
   finished-answered i l d z = done-code w i (omega (arith, w.rows)) d (sym (code_at i) ∙ z)
 
-  pub explained : ((b : List ℕ) → (result j).file ≡ some b → IsFile b (run j).file) → Explained j (result j)
+  pub explained : ((b : List ℕ) → (result j).file ≡ Some b → IsFile b (run j).file) → Explained j (result j)
   explained charged =
       record {
         count = answer-count;

@@ -1,11 +1,10 @@
 -- What is known of the file while an operation is under way, by its stage: of its page, its plan and the entries. A move of another operation
 -- leaves that as it is, since it leaves alone the pages that are held.
 use Rattle.std.proofs.Math.Logic.Iff
-use Rattle.std.specs.Prelude.{ℕ, suc, ◌+◌, ◌^◌, ◌<◌, ◌≤◌, ◌≡◌, ◌⊎◌, ◌↔◌, true, length, get_or}
+use Rattle.std.specs.Prelude.{ℕ, suc, ◌+◌, ◌^◌, ◌<◌, ◌≤◌, ◌≡◌, ◌⊎◌, ◌↔◌, true, length, get_or, Option, None, Some}
 use Rattle.std.proofs.Math.Path.{refl}
 use Rattle.std.proofs.Common.{sym, ap, ◌∙◌, inl, inr, arith, get_or-set_same, get_or-set_other}
 use Rattle.std.proofs.Math.Logic.{by_cases}
-use Rattle.std.proofs.Math.Option.{Option, none, some}
 use Rattle.std.proofs.Math.Decide.{ℕ_discrete, dec_lt}
 use Rattle.std.proofs.Math.Seq.{set_out}
 use Rattle.spec.specs.declared.Rec.{Rec}
@@ -33,7 +32,7 @@ use Rattle.laws.specs.Turns.Good.{FinePart, Fine, MayPage, page_other}
 pub record Plan (f : File) (op : Op) (x : ℕ) : Type 0 where
   pub kind : op.kind ≡ Insert
   pub here : In (page_at f x) op.call
-  pub absent : find_in (page_at f x).records op.call ≡ none
+  pub absent : find_in (page_at f x).records op.call ≡ None
   pub depth : least_shared (page_at f x).records op.call < f.g
 
 -- the entries below j that still name x stay with it (`settled`); the call's own names x, if it stays or is not below j
@@ -53,8 +52,8 @@ WorkTask f op x (Release y) = Unit {0}
 WorkTask f op x Decide = entry_at f (home_of f op) ≡ x
 WorkTask f op x WritePage =
     (entry_at f (home_of f op) ≡ x)
-    × (op.kind ≡ Insert → (find_in (page_at f x).records op.call ≡ none) × (length (page_at f x).records < f.c))
-    × (op.kind ≡ Delete → (r : Rec) × (find_in (page_at f x).records op.call ≡ some r) × (strikes op.charge r.charge ≡ true))
+    × (op.kind ≡ Insert → (find_in (page_at f x).records op.call ≡ None) × (length (page_at f x).records < f.c))
+    × (op.kind ≡ Delete → (r : Rec) × (find_in (page_at f x).records op.call ≡ Some r) × (strikes op.charge r.charge ≡ true))
 WorkTask f op x WriteOld = Plan f op x × Moving f op x (2 ^ f.g)
 WorkTask f op x Unlock = Unit {0}
 
@@ -157,8 +156,8 @@ module _ (f : File) (m : Move) (op : Op) where
 
 -- a move rewrites only an entry that names a page that its operation holds, to name another such page
 abbrev pub MayTurn : File → Stage → Option EntryWrite → Type 0
-MayTurn f st none = Unit {0}
-MayTurn f st (some w) = Holds st (entry_at f w.entry) × Holds st w.number
+MayTurn f st None = Unit {0}
+MayTurn f st (Some w) = Holds st (entry_at f w.entry) × Holds st w.number
 
 dir_other
     : (f : File) (st : Stage) (w : Option EntryWrite) (e p : ℕ)
@@ -166,8 +165,8 @@ dir_other
     → (Holds st p → ⊥)
     → (get_or (directory_after w f.directory) e 0 ≡ p) ↔ (entry_at f e ≡ p)
 unfolding directory_after entry_at
-dir_other f st none e p a n = Iff.rfl
-dir_other f st (some w) e p a n =
+dir_other f st None e p a n = Iff.rfl
+dir_other f st (Some w) e p a n =
     by_cases (ℕ_discrete e w.entry)
     (λ (q : e ≡ w.entry). (
       by_cases (dec_lt w.entry (length f.directory))

@@ -1,11 +1,10 @@
 -- What a turn writes. An entry is written only at the stage for it, and it comes to name a higher and deeper page than it named. A page that
 -- is written becomes no less deep; and its new pattern begins an entry that names another page only where it did so before, at the same depth.
 use Prim.Native.Nat.{ℕ, suc, ◌+◌, ◌^◌, ◌<◌, ◌≤◌}
-use Rattle.std.specs.Prelude.{◌≡◌, ◌⊎◌, List, Bool, true, get_or}
+use Rattle.std.specs.Prelude.{◌≡◌, ◌⊎◌, List, Bool, true, get_or, Option, None, Some}
 use Rattle.std.proofs.Math.Path.{refl}
 use Rattle.std.proofs.Common.{ap, ◌∙◌}
 use Rattle.std.proofs.Math.Logic.{inl, inr}
-use Rattle.std.proofs.Math.Option.{Option, none, some}
 use native.Mathlib.Omega.{arith}
 use Rattle.spec.specs.declared.Rec.{Rec}
 use Rattle.spec.specs.declared.Op.{Op}
@@ -22,7 +21,7 @@ use Rattle.spec.specs.File.{Page, File, zero_page, page_at, entry_at, found_of}
 use Rattle.spec.specs.Job.{no_op}
 use Rattle.spec.specs.Split.{added}
 use Rattle.spec.specs.State.{State, Answer, same, PageWrite, EntryWrite, Move, go}
-use Rattle.spec.specs.Turn.{plan_of, new_count, goes_to, begin, looked, reread, cleared, written, verified, old_written, held_turn, split_turn, turn}
+use Rattle.spec.specs.Turn.{plan_of, new_count, goes_to, begin, looked, looked_at, reread, cleared, written, verified, old_written, held_turn, split_turn, turn}
 use Rattle.spec.specs.Run.{stage_of}
 use Rattle.spec.specs.Proper.{In}
 use Rattle.laws.specs.Tools.{if_case, first, rest, each_at}
@@ -44,14 +43,14 @@ BeginsAt f q e = begins f.g q.depth q.pattern e ≡ true
 
 -- the entry that the turn at this stage writes
 pub data WritesEntry (f : File) : Stage → Option EntryWrite → Type 0 where
-  no_entry : {st : Stage} → WritesEntry f st none
+  no_entry : {st : Stage} → WritesEntry f st None
   one_entry
       : {x b n j y : ℕ}
       → entry_at f j ≡ x
       → j < 2 ^ f.g
       → x < y
       → (page_at f x).depth < (page_at f y).depth
-      → WritesEntry f (Split x b n (WriteEntry j)) (some (record { entry = j; number = y }))
+      → WritesEntry f (Split x b n (WriteEntry j)) (Some (record { entry = j; number = y }))
 
 -- page x, that becomes q
 pub record PageAfter (f : File) (x : ℕ) (q : Page) : Type 0 where
@@ -64,8 +63,8 @@ same_page_lem f x q d p = record { deep = omega arith; begun = λ e l b n. (d, r
 
 -- the page that the turn writes; or it is one of a split that no entry names yet
 abbrev pub WritesPage : File → Stage → Option PageWrite → Type 0
-WritesPage f st none = Unit {0}
-WritesPage f st (some w) = Unreached st w.number ⊎ PageAfter f w.number w.page
+WritesPage f st None = Unit {0}
+WritesPage f st (Some w) = Unreached st w.number ⊎ PageAfter f w.number w.page
 
 pub record Writes (f : File) (st : Stage) (m : Move) : Type 0 where
   pub entry : WritesEntry f st m.entry
@@ -88,9 +87,9 @@ module _ (ops : List Op) (s : State) (op : Op) (good : Good ops s) (coherent : C
   begin_writes Delete x = calm
 
   looked_writes : (x : ℕ) (o : Option Rec) → W (ReadPage x) (looked s op (found_of x o))
-  unfolding looked found_of
-  looked_writes x none = calm
-  looked_writes x (some r) = calm
+  unfolding looked_at
+  looked_writes x None = calm
+  looked_writes x (Some r) = calm
 
   written_writes : (x : ℕ) (k : Kind) → W (Held x WritePage) (written s op x k (page_at f x))
   unfolding written added cleared

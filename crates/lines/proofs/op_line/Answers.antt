@@ -1,34 +1,21 @@
-use mathlib.Core.Path.{sym}
-use native.Mathlib.Omega.{arith}
-use Rattle.spec.specs.Bytes.{byte, word, long, text}
-use Rattle.spec.specs.Job.{kind_of}
-use Rattle.spec.specs.Report.{decimal, kind_word, code_word}
-use Rattle.wire.specs.WroteLaws.{then, same}
-use Rattle.text.specs.Chain.{also, room}
+use Rattle.spec.specs.Bytes.{byte, text}
+use Rattle.std.proofs.Common.{arith}
+use Rattle.text.specs.AddedLaws.{then, same, wider}
 use Rattle.lines.proofs.Laws.{op_said}
 use Rattle.lines.proofs.op_line.Goals as goal
-
-pub put_bytes-requires : goal.put_bytes-requires
-put_bytes-requires c =
-    let w =
-    then (then (then (then (then c.put_field-end.ensures c.put_kind-end.ensures) c.put_field32-end.ensures) c.put_code-end.ensures) c.put_field32-end-2.ensures) c.put_field16-end.ensures in
-    room 1 w (omega (arith, c.requires.0))
 
 pub returns : goal.returns
 unfolding text byte
 returns c =
     let a = c.args in
-    let o = a.op.now in
-    let t = a.answer.now in
-    same (sym (op_said a.i o t))
+    let kind = c.kind_word.ensures in
+    let code = c.code_word.ensures in
+    same (op_said a.i a.op.now a.answer.now _ _ _ _ _ kind.word c.u32_at.ensures code.word c.u32_at-2.ensures c.u16_at.ensures.0)
+    (wider (omega (arith, kind.short, code.short))
     (then
-    (also (text " turns ") (decimal (word t 2))
-    (also (text " ") (decimal (long t 4))
-    (also (text " ") (code_word (byte t 0))
-    (also (text " ") (decimal (long o 2))
-    (also (text " ") (kind_word (kind_of (byte o 0))) c.put_field-end.ensures c.put_kind-end.ensures)
-    c.put_field32-end.ensures)
-    c.put_code-end.ensures)
-    c.put_field32-end-2.ensures)
-    c.put_field16-end.ensures)
-    c.put_bytes.ensures)
+    (then
+    (then
+    (then (then (then (then (then c.field.ensures c.bytes.ensures) c.bytes-2.ensures) c.field-2.ensures) c.bytes-3.ensures) c.bytes-4.ensures)
+    c.field-3.ensures)
+    c.field-4.ensures)
+    c.bytes-5.ensures))

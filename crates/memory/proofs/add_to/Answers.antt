@@ -8,11 +8,9 @@ pub add-requires : goal.add-requires
 add-requires c =
     let g = c.args in
     let o = c.requires.0 in
-    rw (lent g.c g.work.now g.x c.place-a.result c.place-a.ensures.0, part_room o)
-    (part_sound o (omega arith), omega (arith, part_count g.c g.work.now g.x, c.requires.1))
+    rw (lent g.work.now c.span.ensures, part_room o) (part_sound o (omega arith), omega (arith, part_count g.c g.work.now g.x, c.requires.1))
 
 pub returns : goal.returns
 returns c =
-    let at = c.place-a in
     let done = c.add in
-    rewritten (λ k p. added p c.args.r) at.result done.new.page c.requires.0 at.ensures.0 done.auto.page done.ensures
+    rewritten (λ k p. added p c.args.r) done.new.page c.requires.0 c.span.ensures done.auto.page done.ensures

@@ -24,9 +24,9 @@ steps w d p c u e₁ e e₂ e₃ e₄ = rw (e₄, e₃, e₂, e, e₁, take-leng
 
 pub copy-requires-2 : goal.copy-requires-2
 copy-requires-2 c =
-    (omega arith, omega (arith, pages_end c.args.c 256 c.requires.capacity (omega arith), c.place.ensures.0, c.requires.pages, c.requires.size))
+    (omega arith, omega (arith, pages_end c.args.c 256 c.requires.capacity (omega arith), c.span.ensures.begins, c.requires.pages, c.requires.size))
 
 pub returns : goal.returns
 returns c =
     let a = c.args in
-    steps a.work.now a.directory.now a.pages.now a.c a.used c.copy.ensures c.place.ensures.0 c.copy-2.ensures c.set_used.ensures c.set_locks.ensures
+    steps a.work.now a.directory.now a.pages.now a.c a.used c.copy.ensures c.span.ensures.begins c.copy-2.ensures c.set_used.ensures c.set_locks.ensures

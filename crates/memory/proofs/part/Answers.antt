@@ -6,5 +6,4 @@ use Rattle.memory.proofs.part.Goals as goal
 pub returns : goal.returns
 returns c =
     let g = c.args in
-    rw (lent g.c g.work.now g.x c.place-a.result c.place-a.ensures.0)
-    (refl, part_length c.requires, sym (part_count g.c g.work.now g.x))
+    rw (lent g.work.now c.span.ensures) (refl, part_length c.requires, sym (part_count g.c g.work.now g.x))

@@ -8,16 +8,14 @@ use Rattle.memory.proofs.write_old_page.Goals as goal
 
 pub write_old-requires : goal.write_old-requires
 write_old-requires c =
-    let g = c.args in
     let o = c.requires.0 in
-    rw (lent g.c g.work.now g.x c.place-a.result c.place-a.ensures.0, part_room o)
+    rw (lent c.args.work.now c.span.ensures, part_room o)
     (part_sound o (omega (arith, c.requires.1.full)), unfold page_in in c.requires.1, unfold page_in in c.requires.2)
 
 pub returns : goal.returns
 returns c =
     let w = c.args in
-    let at = c.place-a in
     let done = c.write_old in
     λ g h.
-    rewritten (λ k p. (grow k (suc g) p w.r).old) at.result done.new.page c.requires.0 at.ensures.0 done.auto.page
-    (done.ensures g (rw (lent w.c w.work.now w.x at.result at.ensures.0) (unfold page_in in h)))
+    rewritten (λ k p. (grow k (suc g) p w.r).old) done.new.page c.requires.0 c.span.ensures done.auto.page
+    (done.ensures g (rw (lent w.work.now c.span.ensures) (unfold page_in in h)))

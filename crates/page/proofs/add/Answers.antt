@@ -1,5 +1,5 @@
--- `page::add` meets its contract: one record in its place among the page's own.
-use native.Mathlib.Omega.{arith}
+-- One record in its place among the page's own.
+use Rattle.std.proofs.Common.{arith}
 use Rattle.page.specs.ImageLaws.{added_image}
 use Rattle.page.proofs.add.Goals as goal
 

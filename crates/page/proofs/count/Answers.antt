@@ -1,5 +1,4 @@
--- `page::count` meets its contract: byte 1.
-use mathlib.Core.Path.{sym, ◌∙◌}
+use Rattle.std.proofs.Common.{sym, ◌∙◌}
 use Rattle.laws.specs.Codec.Pages.{records-count}
 use Rattle.page.proofs.count.Goals as goal
 

@@ -1,7 +1,5 @@
--- `page::put_rec` meets its contract: two numbers, one behind another.
-use mathlib.Core.Path.{◌≡◌}
-use Prim.Native.Nat.{◌+◌, ◌*◌}
-use native.Mathlib.Omega.{arith}
+-- Two numbers, one behind another.
+use Rattle.std.proofs.Common.{◌≡◌, ◌+◌, ◌*◌, arith}
 use Rattle.page.specs.ImageLaws.{over_record}
 use Rattle.page.proofs.put_rec.Goals as goal
 

@@ -1,4 +1,4 @@
--- `page::rec_at` meets its contract: two numbers.
+-- Two numbers.
 use Rattle.page.specs.View.{record_read}
 use Rattle.page.proofs.rec_at.Goals as goal
 

@@ -1,9 +1,5 @@
--- `pieces::new_piece` meets its contract: by the bit that split i goes by.
-use mathlib.Core.Path.{◌≡◌, sym, ◌∙◌}
-use mathlib.Core.Bool.{true, false}
-use Prim.Native.Nat.{◌+◌, ◌-◌, ◌≤◌}
-use native.Mathlib.Omega.{arith}
-use lib.Pow.{pow_mono}
+-- By the bit that split i goes by.
+use Rattle.std.proofs.Common.{◌≡◌, sym, ◌∙◌, true, false, ◌+◌, ◌-◌}
 use Rattle.spec.specs.Key.{bit}
 use Rattle.laws.specs.Key.{bits_of, bit_of}
 use Rattle.pieces.specs.PieceLaws.{new_one, new_zero, side_one}
@@ -16,16 +12,6 @@ returns-then-bit c =
     let d = a.depth + (a.i - 1) in
     let one : bit d a.call ≡ true = sym (bit_of d a.call c.bit.ensures own.ensures) ∙ c.if-bit.true in
     c.old_piece.ensures ∙ sym (new_one (a.n - a.i) d a.call one)
-
-pub overflow_mul-result : goal.overflow_mul-result
-overflow_mul-result c =
-    let deep : c.args.depth + (c.args.i - 1) ≤ 32 = omega (arith, c.requires) in
-    omega (arith, pow_mono (deep))
-
-pub overflow_add-result-2 : goal.overflow_add-result-2
-overflow_add-result-2 c =
-    let deep : c.args.depth + (c.args.i - 1) ≤ 32 = omega (arith, c.requires) in
-    omega (arith, pow_mono (deep))
 
 pub returns : goal.returns
 returns c =

@@ -1,9 +1,4 @@
--- `pieces::old_piece` meets its contract: the piece is the piece at depth d.
-use mathlib.Core.Path.{◌≡◌, sym, ap, ◌∙◌}
-use mathlib.Core.Bool.{true, false}
-use Prim.Native.Nat.{ℕ, ◌+◌, ◌-◌, ◌≤◌}
-use native.Mathlib.Omega.{arith}
-use lib.Pow.{pow_mono}
+use Rattle.std.proofs.Common.{◌≡◌, sym, ap, ◌∙◌, true, false, ℕ, ◌+◌, ◌-◌, ◌≤◌, arith, pow_mono}
 use Rattle.spec.specs.Key.{bit}
 use Rattle.laws.specs.Key.{bits_of, bit_of}
 use Rattle.pieces.specs.Piece.{own_piece, kept_piece}
@@ -14,7 +9,7 @@ pub loop-d-init : goal.loop-d-init
 loop-d-init c =
     let a = c.args in
     let all : a.n ≡ a.depth + a.n - a.depth = omega arith in
-    (omega arith, ap (λ (m : ℕ). kept_piece m a.depth a.call) all)
+    ap (λ (m : ℕ). kept_piece m a.depth a.call) all
 
 pub overflow_mul-result : goal.overflow_mul-result
 overflow_mul-result c =
@@ -28,7 +23,7 @@ returns-then-bit c =
     let d = c.loop-d.d in
     let one : bit d a.call ≡ true = sym (bit_of d a.call c.bit.ensures own.ensures) ∙ c.if-bit.true in
     let bits = bits_of d a.call c.first_bits.ensures.0 own.ensures in
-    sym (c.loop-d.invariant.1 ∙ kept_one (a.depth + a.n) d a.call (omega arith) one ∙ side_zero d a.call c.first_bits.result bits)
+    sym (c.loop-d.invariant ∙ kept_one (a.depth + a.n) d a.call (omega arith) one ∙ side_zero d a.call c.first_bits.result bits)
 
 pub loop-d-preserved : goal.loop-d-preserved
 loop-d-preserved c =
@@ -36,7 +31,7 @@ loop-d-preserved c =
     let a = c.args in
     let d = c.loop-d.d in
     let no : bit d a.call ≡ false = sym (bit_of d a.call c.bit.ensures own.ensures) ∙ c.if-bit.false in
-    (omega arith, c.loop-d.invariant.1 ∙ kept-zero (a.depth + a.n) d a.call (omega arith) no)
+    c.loop-d.invariant ∙ kept-zero (a.depth + a.n) d a.call (omega arith) no
 
 pub returns : goal.returns
 unfolding own_piece
@@ -45,4 +40,4 @@ returns c =
     let a = c.args in
     let d = c.loop-d.d in
     let bits = bits_of (a.depth + a.n) a.call c.first_bits-2.ensures.0 own.ensures in
-    sym (c.loop-d.invariant.1 ∙ kept_own (a.depth + a.n) d a.call (omega arith) ∙ rw (← bits))
+    sym (c.loop-d.invariant ∙ kept_own (a.depth + a.n) d a.call (omega arith) ∙ rw (← bits))

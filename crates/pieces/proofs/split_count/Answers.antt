@@ -1,5 +1,5 @@
--- `pieces::split_count` meets its contract: by the shared bits and the page's depth.
-use native.Mathlib.Omega.{arith}
+-- By the shared bits and the page's depth.
+use Rattle.std.proofs.Common.{arith}
 use Rattle.spec.specs.Split.{split_count}
 use Rattle.pieces.proofs.split_count.Goals as goal
 

@@ -1,8 +1,5 @@
--- `pieces::write_new` meets its contract: the law of the splits (Parts) says which piece new page i is.
-use mathlib.Core.Path.{◌≡◌, sym, ap, ◌∙◌}
-use Prim.Native.Nat.{◌+◌, ◌-◌, ◌≤◌}
-use native.Mathlib.Omega.{arith}
-use lib.ListN.{length}
+-- The law of the splits (Parts) says which piece new page i is.
+use Rattle.std.proofs.Common.{◌≡◌, sym, ap, ◌∙◌, ◌+◌, ◌-◌, ◌≤◌, arith, length}
 use Rattle.spec.specs.Decode.{page_of}
 use Rattle.spec.specs.Encode.{page_bytes}
 use Rattle.spec.specs.Split.{split_count}

@@ -1,7 +1,5 @@
--- `pieces::write_old` meets its contract: the law of the splits (Parts) says which piece the old page is.
-use mathlib.Core.Path.{◌≡◌, sym, ap, ◌∙◌}
-use native.Mathlib.Omega.{arith}
-use lib.ListN.{length}
+-- The law of the splits (Parts) says which piece the old page is.
+use Rattle.std.proofs.Common.{◌≡◌, sym, ap, ◌∙◌, arith, length}
 use Rattle.spec.specs.Decode.{page_of}
 use Rattle.spec.specs.Encode.{page_bytes}
 use Rattle.spec.specs.Split.{split_count}

@@ -1,51 +1,62 @@
--- `pieces::write_piece` meets its contract: the records that begin with the pattern, the call where it is its own page, and the page closed.
-use Prim.Native.Nat.{◌<◌}
-use native.Mathlib.Omega.{arith}
-use lib.ListN.{length}
+-- The records that begin with the pattern, the call where it is its own page, and the page closed.
+use Rattle.std.proofs.Common.{◌≡◌, true, ◌<◌, ℕ, List, arith, rules, length}
 use Rattle.spec.specs.Bytes.{byte}
-use Rattle.spec.specs.File.{of_index}
+use Rattle.spec.specs.Decode.{page_of}
+use Rattle.spec.specs.File.{has_index, of_index}
 use Rattle.laws.specs.Tools.{if-true, if-false}
 use Rattle.page.specs.Room.{room}
-use Rattle.page.specs.Keep.{passes_of}
+use Rattle.page.specs.Keep.{Kept}
 use Rattle.page.specs.KeepLaws.{kept-few, kept-length, kept_all, kept_image, kept_image_more}
+use Rattle.pieces.specs.declared.Piece.{Piece}
 use Rattle.pieces.specs.Piece.{cut}
+use Rattle.pieces.specs.Splits.{Fits}
 use Rattle.pieces.proofs.write_piece.Goals as goal
 
-pub put_in-requires : goal.put_in-requires
-unfolding passes_of of_index
-put_in-requires c =
-    let spare : c.keep-m.result < room (length c.args.page.now) = omega (arith, c.requires.1.spare c.if-q.true, kept_all c.keep-m.ensures) in
-    omega (arith, spare, kept-length c.keep-m.ensures)
+-- the call's own page has room for it
+room_for
+    : {s t : List ℕ} {m : ℕ} {q : Piece}
+    → Fits (room (length s)) (page_of s) q
+    → q.own ≡ true
+    → Kept (has_index q.depth q.pattern) s t m (byte s 1)
+    → m < room (length s)
+unfolding of_index
+room_for fits own k = omega (arith, fits.spare own, kept_all k)
 
-pub overflow_add-m : goal.overflow_add-m
-unfolding passes_of of_index
-overflow_add-m c =
-    let spare : c.keep-m.result < room (length c.args.page.now) = omega (arith, c.requires.1.spare c.if-q.true, kept_all c.keep-m.ensures) in
-    omega (arith, spare)
+pub put_in-requires : goal.put_in-requires
+unfolding has_index
+put_in-requires c =
+    let k = c.keep-kept.ensures (has_index c.args.q.depth c.args.q.pattern) (λ a b t. search rules) in
+    omega (arith, room_for c.requires.1 c.if-own.true k, kept-length k)
+
+pub overflow_add-kept : goal.overflow_add-kept
+unfolding has_index
+overflow_add-kept c =
+    let k = c.keep-kept.ensures (has_index c.args.q.depth c.args.q.pattern) (λ a b t. search rules) in
+    omega (arith, room_for c.requires.1 c.if-own.true k)
 
 pub close-requires : goal.close-requires
-unfolding passes_of of_index
+unfolding has_index
 close-requires c =
-    let spare : c.keep-m.result < room (length c.args.page.now) = omega (arith, c.requires.1.spare c.if-q.true, kept_all c.keep-m.ensures) in
-    omega (arith, spare, kept-length c.keep-m.ensures)
+    let k = c.keep-kept.ensures (has_index c.args.q.depth c.args.q.pattern) (λ a b t. search rules) in
+    omega (arith, room_for c.requires.1 c.if-own.true k, kept-length k)
 
-pub close-requires-else-q : goal.close-requires-else-q
-close-requires-else-q c = omega (arith, kept-few c.keep-m.ensures, kept-length c.keep-m.ensures)
+pub close-requires-else-own : goal.close-requires-else-own
+unfolding has_index
+close-requires-else-own c =
+    let k = c.keep-kept.ensures (has_index c.args.q.depth c.args.q.pattern) (λ a b t. search rules) in
+    omega (arith, kept-few k, kept-length k)
 
-pub returns-then-q : goal.returns-then-q
-unfolding cut of_index passes_of byte
-returns-then-q c =
-    let spare : c.keep-m.result < room (length c.args.page.now) = omega (arith, c.requires.1.spare c.if-q.true, kept_all c.keep-m.ensures) in
+pub returns-then-own : goal.returns-then-own
+unfolding cut has_index of_index byte
+returns-then-own c =
     let q = c.args.q in
-    let m = c.keep-m in
-    let known = c.slice_known-1.given in
-    rw (if-true _ _ c.if-q.true)
-    (cc (kept_image_more m.ensures c.requires.0 q.depth q.pattern c.args.r (λ k. omega (arith, known k)) (spare)))
+    let k = c.keep-kept.ensures (has_index q.depth q.pattern) (λ a b t. search rules) in
+    let more = kept_image_more k c.requires.0 q.depth q.pattern c.args.r (λ i. search rules) (room_for c.requires.1 c.if-own.true k) in
+    rw (if-true _ _ c.if-own.true) (cc more)
 
-pub returns-else-q : goal.returns-else-q
-unfolding cut of_index passes_of
-returns-else-q c =
+pub returns-else-own : goal.returns-else-own
+unfolding cut has_index of_index
+returns-else-own c =
     let q = c.args.q in
-    let m = c.keep-m in
-    rw (if-false _ _ c.if-q.false)
-    (cc (kept_image m.ensures c.requires.0 q.depth q.pattern))
+    let k = c.keep-kept.ensures (has_index q.depth q.pattern) (λ a b t. search rules) in
+    rw (if-false _ _ c.if-own.false) (cc (kept_image k c.requires.0 q.depth q.pattern))

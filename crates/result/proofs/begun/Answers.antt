@@ -1,20 +1,15 @@
 use native.Mathlib.Omega.{arith}
-use mathlib.Core.Path.{sym, ◌∙◌}
-use borrow.Author.Tests.{eq-eqb, ne_eqb}
-use Rattle.laws.specs.Tools.{if-true, if-false}
+use Rattle.std.proofs.lemmas.Bool.Decides.{nat_tests}
+use Rattle.spec.specs.Basics.{if}
+use Rattle.spec.specs.Split.{digit}
 use Rattle.result.specs.Marks.{begun_number}
+use Rattle.result.proofs.begun.Goals.{in-0, in_default}
 use Rattle.result.proofs.begun.Goals as goal
 
-pub returns-then-stage-eq0 : goal.returns-then-stage-eq0
-unfolding begun_number
-returns-then-stage-eq0 c = (sym (if-true _ _ (eq-eqb _ _ c.if-stage-eq0.true)), omega arith)
-
-pub returns-then-stage-eq13 : goal.returns-then-stage-eq13
-unfolding begun_number
-returns-then-stage-eq13 c =
-    (sym (if-false _ _ (ne_eqb _ _ c.if-stage-eq0.false) ∙ if-true _ _ (eq-eqb _ _ c.if-stage-eq13.true)), omega arith)
-
 pub returns : goal.returns
-unfolding begun_number
+unfolding begun_number digit if
 returns c =
-    (sym (if-false _ _ (ne_eqb _ _ c.if-stage-eq0.false) ∙ if-false _ _ (ne_eqb _ _ c.if-stage-eq13.false)), omega arith)
+    elim c.match-matches.branch [
+      | in-0 w ↦ rw w.matches-is (grind (arith, nat_tests, w.in-0.is))
+      | in_default w ↦ rw w.matches-is (grind (arith, nat_tests, w.in_default))
+    ]

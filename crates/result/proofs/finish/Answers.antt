@@ -15,9 +15,8 @@ unfolding byte
 returns c =
     λ s y.
     let n = c.file_length in
-    let known = c.shared_slice_known-1.given in
     let log = c.write_log-lines.ensures in
     let none = c.if-under-ne0.false in
     let file = c.write_file.ensures in
-    let length = file-length y.file (omega arith) (omega arith) (omega arith) (omega arith) (λ k. omega (arith, known k)) in
+    let length = file-length y.file (omega arith) (omega arith) (omega arith) (omega arith) (λ k. omega (arith, c.type_inv.work k)) in
     with_file y log n.result none (file s.file y.file) (omega arith) c.write_header-2.ensures (omega arith)

@@ -8,7 +8,7 @@ unfolding byte
 returns c =
     λ f h.
     let a = c.args in
-    let u = c.used in
+    let u = c.used-used in
     let n = c.entries_at in
     file_pieces h (omega arith) a.res.now a.at u.result n.result
     c.put_file.ensures
@@ -16,4 +16,4 @@ returns c =
     u.ensures.0
     n.ensures.0
     (omega arith)
-    (λ k. omega (arith, c.shared_slice_known-1.given k))
+    (λ k. omega (arith, c.type_inv.work k))

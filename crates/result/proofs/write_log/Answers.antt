@@ -1,6 +1,6 @@
 use native.Mathlib.Omega.{arith}
-use Rattle.result.specs.Marks.{mark_place}
 use Rattle.result.proofs.Logging.{start, skip, more, finish}
+use Rattle.result.proofs.write_log.Goals.{in-Some, in_default}
 use Rattle.result.proofs.write_log.Goals as goal
 
 pub loop-i-init : goal.loop-i-init
@@ -8,18 +8,13 @@ loop-i-init c =
     let a = c.args in
     start a.work.now a.m a.res.now a.at
 
-pub loop-i-preserved-then-mark-eq0 : goal.loop-i-preserved-then-mark-eq0
-unfolding mark_place
-loop-i-preserved-then-mark-eq0 c =
-    let u = c.u16_at-mark in
-    skip u.result u.ensures.0 (omega arith) c.loop-i.invariant c.if-mark-eq0.true
-
 pub loop-i-preserved : goal.loop-i-preserved
-unfolding mark_place
 loop-i-preserved c =
-    let u = c.u16_at-mark in
-    let some = c.if-mark-eq0.false in
-    more u.result u.ensures.0 (omega arith) c.loop-i.invariant some (omega arith) (omega arith) c.place_line.ensures
+    elim c.match-moment.branch [
+      | in-Some w ↦
+          rw (w.res-is, w.lines-is) (more c.moment.ensures (omega arith) c.loop-i.invariant w.in-Some.is (omega arith) (omega arith) w.place_line.ensures)
+      | in_default w ↦ rw (w.res-is, w.lines-is) (skip c.moment.ensures (omega arith) c.loop-i.invariant w.in_default.is)
+    ]
 
 pub returns : goal.returns
 returns c = finish (omega arith) c.loop-i.invariant

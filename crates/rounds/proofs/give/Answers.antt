@@ -1,24 +1,30 @@
--- `rounds::give` meets its contract: the row is taken out, moved on if it got the turn, and put back.
+-- `rounds::give` meets its contract: the row is taken out and, where it gets the turn, moved on and put back.
+use mathlib.Core.Path.{sym, ◌∙◌}
+use native.Mathlib.Omega.{arith}
+use Rattle.table.specs.Turns.{moved_on}
 use Rattle.rounds.specs.OnTable.{dealing}
-use Rattle.rounds.proofs.Giving.{moves_asks, given}
+use Rattle.rounds.proofs.Giving.{passed, given}
 use Rattle.rounds.proofs.give.Goals as goal
 
-pub moved_on-requires : goal.moved_on-requires
-moved_on-requires c = moves_asks c.requires c.next_turn-n.result c.next_turn-n.ensures.0
+pub idles-requires : goal.idles-requires
+idles-requires c = c.requires.lock
+
+pub bounds-rows-i : goal.bounds-rows-i
+bounds-rows-i c = c.requires.row
+
+pub returns-then-idles : goal.returns-then-idles
+returns-then-idles c = passed _ _ _ (dealing c.args.rows.now c.args.out.now c.args.work.now c.args.t) (sym c.idles.ensures ∙ c.if-idles.true)
+
+pub put_u16-requires : goal.put_u16-requires
+put_u16-requires c = omega (arith, c.requires.room (sym c.idles.ensures ∙ c.if-idles.false), c.turns_offset.ensures.0)
+
+pub step-requires : goal.step-requires
+step-requires c = rw (c.shape_of.ensures, c.op.ensures) (c.requires.moves (sym c.idles.ensures ∙ c.if-idles.false)).safe
 
 pub returns : goal.returns
+unfolding moved_on
 returns c =
     let a = c.args in
-    let n = c.next_turn-n in
-    given
-    a.h
-    a.job.now
-    a.i
-    (dealing a.rows.now a.out.now a.work.now a.t)
-    n.result
-    n.new.out
-    c.moved_on.result
-    c.moved_on.new.work
-    n.ensures.0
-    n.ensures.1
-    c.moved_on.ensures
+    given a.reader.header a.reader.job.now a.i (dealing a.rows.now a.out.now a.work.now a.t) (sym c.idles.ensures ∙ c.if-idles.false)
+    (rw (← c.turns_offset.ensures.0) c.put_u16.ensures)
+    (rw (← c.shape_of.ensures, ← c.op.ensures) c.step.ensures)

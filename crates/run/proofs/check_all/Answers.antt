@@ -1,38 +1,30 @@
-use mathlib.Core.Path.{◌≡◌, sym, ◌∙◌}
-use mathlib.Core.Option.{none}
-use native.Mathlib.Omega.{arith}
-use Rattle.spec.specs.Check.{job_fault}
-use Rattle.laws.specs.Codec.Rows.{accepted_header}
-use Rattle.header.specs.Accepted.{accepted_heads}
-use Rattle.laws.specs.Codec.Answer.{accepted, refused}
-use Rattle.laws.specs.Codec.AsBytes.{are_bytes}
-use Rattle.run.proofs.Ends.{by_job, by_lent, by_none}
+-- `check_all` answers with the first row that holds: the job's own, then the lent lengths.
+use mathlib.Core.Path.{◌≡◌}
+use Rattle.std.proofs.lemmas.Result.{err_from_is_err_and}
+use Rattle.spec.specs.Check.{small_output}
+use Rattle.laws.specs.Codec.Answer.{no_fault, its_fault}
+use Rattle.run.specs.Call.{lengths}
+use Rattle.run.proofs.Ends.{by_job, by_lent}
+use Rattle.run.proofs.check_all.Goals.{After-small_output}
 use Rattle.run.proofs.check_all.Goals as goal
 
-pub returns-in-Refused : goal.returns-in-Refused
-returns-in-Refused c =
-    (by_job _ _ _ _ (refused _ _ _ (sym c.in-Refused.is ∙ c.check-c.ensures)), are_bytes _ (λ j. omega (arith, c.shared_slice_known-1.given j)))
+-- what was looked at last is the row about what is lent
+lent_looked : (c : After-small_output) → c.small_output.result ≡ small_output (lengths c.args.lent) c.args.job.now
+lent_looked c = rw c.in_ok-reader.ensures.read at c.small_output.ensures
 
-pub read-requires : goal.read-requires
-read-requires c =
-    let passed : job_fault c.args.job.now ≡ none = accepted _ (sym c.in_default.is ∙ c.check-c.ensures) in
-    (accepted_header _ (passed)).laid.header
+pub returns-in_err-reader-clause-fault : goal.returns-in_err-reader-clause-fault
+returns-in_err-reader-clause-fault c =
+    let p = err_from_is_err_and c.from_residual.result c.from_residual.ensures.1 in
+    rw (p.1, p.2) (by_job _ _ _ (its_fault c.check.ensures.fault c.in_err-reader.was))
 
-pub small_output-s-requires : goal.small_output-s-requires
-small_output-s-requires c =
-    let passed : job_fault c.args.job.now ≡ none = accepted _ (sym c.in_default.is ∙ c.check-c.ensures) in
-    (accepted_heads _ _ (passed) c.read.ensures).limits
+pub returns-in_err-refuses-clause-fault : goal.returns-in_err-refuses-clause-fault
+returns-in_err-refuses-clause-fault c =
+    let p = err_from_is_err_and c.from_residual-in_err-refuses.result c.from_residual-in_err-refuses.ensures.1 in
+    rw (p.1, p.2)
+    (by_lent _ _ _ _ (no_fault c.check.ensures.fault c.in_ok-reader.was) (lent_looked (goal.at.returns-in_err-refuses-clause-fault c).After-small_output)
+    (its_fault c.refuses.ensures c.in_err-refuses.was))
 
-pub returns-in-At : goal.returns-in-At
-returns-in-At c =
-    let passed : job_fault c.args.job.now ≡ none = accepted _ (sym c.in_default.is ∙ c.check-c.ensures) in (
-      by_lent _ _ _ (passed) (sym c.in-At.is ∙ c.small_output-s.ensures _ c.read.ensures),
-      are_bytes _ (λ j. omega (arith, c.shared_slice_known-1.given j)),
-    )
-
-pub returns : goal.returns
-returns c =
-    let passed : job_fault c.args.job.now ≡ none = accepted _ (sym c.in_default.is ∙ c.check-c.ensures) in (
-      by_none _ _ (passed) (sym c.in_default-s.is ∙ c.small_output-s.ensures _ c.read.ensures),
-      are_bytes _ (λ j. omega (arith, c.shared_slice_known-1.given j)),
-    )
+pub returns-clause-fault : goal.returns-clause-fault
+returns-clause-fault c =
+    by_lent _ _ _ _ (no_fault c.check.ensures.fault c.in_ok-reader.was) (lent_looked (goal.at.returns-clause-fault c).After-small_output)
+    (no_fault c.refuses.ensures c.in_ok-refuses.was)

@@ -1,63 +1,53 @@
 -- `run::run_accepted` meets its contract: call by call, as proofs/Accepting says.
-use Rattle.std.proofs.Common.{◌/◌, ◌∙◌, ap, length, replicate}
+use Rattle.std.proofs.Common.{◌≡◌, ◌/◌, ◌∙◌, ap, length}
 use Rattle.table.specs.Turns.{both}
 use Rattle.table.specs.Told.{told}
 use Rattle.header.specs.Counts.{counts_of}
 use Rattle.reader.specs.Parts.{turns_in}
 use Rattle.run.specs.Table.{all_turns}
-use Rattle.run.proofs.Accepting.{read_asks, load_asks, first_is, turns_may, tell_asks, close_asks, all_ran}
+use Rattle.run.proofs.Accepting.{start_asks, first, first_is, turns_may, tell_asks, finish_asks, all_ran}
+use Rattle.run.proofs.run_accepted.Goals.{After-take_turns}
 use Rattle.run.proofs.run_accepted.Goals as goal
 
-pub read-h-requires : goal.read-h-requires
-read-h-requires c = read_asks c.requires
+-- the turns are taken
+ended
+    : (c : After-take_turns)
+    → both c.take_turns.new.rows c.take_turns.new.work
+    ≡ all_turns c.args.reader.header c.args.reader.job.now (length (turns_in (counts_of c.args.reader.header) c.args.reader.job.now) / 2)
+    (first c.requires c.args.reader.header c.args.reader.heads.counts)
+ended c =
+    let r = c.args.reader in
+    c.take_turns.ensures
+    ∙ ap (all_turns r.header r.job.now (length (turns_in (counts_of r.header) r.job.now) / 2))
+    (first_is c.requires r.header r.heads.counts c.start.ensures.rows c.start.ensures.work)
 
-pub load-requires : goal.load-requires
-load-requires c = load_asks c.requires c.read-h.result c.read-h.ensures
+pub start-requires : goal.start-requires
+start-requires c = start_asks c.requires c.args.reader.header c.args.reader.heads.counts
 
 pub take_turns-requires : goal.take_turns-requires
 take_turns-requires c =
-    let h = c.read-h.result in
-    let e = c.read-h.ensures in
-    let start = first_is c.requires h e c.fill.new.rows c.load.new.work c.blank-blank.result c.fill.ensures c.blank-blank.ensures c.load.ensures in
-    turns_may c.requires h e (both c.fill.new.rows c.load.new.work) start
+    let r = c.args.reader in
+    turns_may c.requires r.header r.heads.counts _ (first_is c.requires r.header r.heads.counts c.start.ensures.rows c.start.ensures.work)
 
 pub tell_rows-under-requires : goal.tell_rows-under-requires
 tell_rows-under-requires c =
-    let h = c.read-h.result in
-    let e = c.read-h.ensures in
-    let start = first_is c.requires h e c.fill.new.rows c.load.new.work c.blank-blank.result c.fill.ensures c.blank-blank.ensures c.load.ensures in
-    let b = c.args.job.now in
-    let all = c.take_turns.ensures ∙ ap (all_turns h b (length (turns_in (counts_of h) b) / 2)) start in
-    tell_asks c.requires h e (both c.take_turns.new.rows c.take_turns.new.work) all
+    tell_asks c.requires c.args.reader.header c.args.reader.heads.counts _ (ended (goal.at.tell_rows-under-requires c).After-take_turns)
 
-pub close-requires : goal.close-requires
-close-requires c =
-    let h = c.read-h.result in
-    let e = c.read-h.ensures in
-    let start = first_is c.requires h e c.fill.new.rows c.load.new.work c.blank-blank.result c.fill.ensures c.blank-blank.ensures c.load.ensures in
-    let b = c.args.job.now in
-    let all = c.take_turns.ensures ∙ ap (all_turns h b (length (turns_in (counts_of h) b) / 2)) start in
+pub finish-total-requires : goal.finish-total-requires
+finish-total-requires c =
     let t = c.tell_rows-under in
-    close_asks c.requires h e (both c.take_turns.new.rows c.take_turns.new.work) all (told t.new.res t.new.work t.result) t.ensures
+    rw c.shape_of.ensures
+    (finish_asks c.requires c.args.reader.header c.args.reader.heads.counts _ (ended (goal.at.finish-total-requires c).After-take_turns)
+    (told t.new.res t.new.work t.result)
+    t.ensures)
 
 pub returns : goal.returns
 returns c =
-    let h = c.read-h.result in
-    let e = c.read-h.ensures in
-    let start = first_is c.requires h e c.fill.new.rows c.load.new.work c.blank-blank.result c.fill.ensures c.blank-blank.ensures c.load.ensures in
-    let b = c.args.job.now in
+    let r = c.args.reader in
     let q = c.take_turns in
-    let all = q.ensures ∙ ap (all_turns h b (length (turns_in (counts_of h) b) / 2)) start in
     let t = c.tell_rows-under in
-    all_ran
-    c.requires
-    h
-    e
-    (both q.new.rows q.new.work)
-    all
-    (told t.new.res t.new.work t.result)
-    t.ensures
-    (q.auto.rows ∙ c.fill.auto.rows)
-    (t.auto.work ∙ q.auto.work ∙ c.load.auto.work)
-    (c.fill-2.ensures ∙ ap (replicate (length q.new.rows)) c.blank-blank.ensures)
-    c.close.ensures
+    all_ran c.requires r.header r.heads.counts _ (ended (goal.at.returns c).After-take_turns) (told t.new.res t.new.work t.result) t.ensures
+    (q.auto.rows ∙ c.start.auto.rows)
+    (t.auto.work ∙ q.auto.work ∙ c.start.auto.work)
+    (rw c.shape_of.ensures at c.finish-total.ensures)
+    c.clear.ensures

@@ -4,4 +4,4 @@ use Rattle.run.proofs.small_output.Goals as goal
 
 pub returns : goal.returns
 unfolding small_output result_size file_length
-returns c = λ b e. rw (← e, ← c.ops_offset.ensures.0) (c.small_for.ensures b e)
+returns c = let e = c.args.reader.heads.counts in rw (← e, ← c.ops_offset.ensures.0) (c.small_for.ensures _ e)

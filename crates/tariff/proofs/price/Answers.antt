@@ -1,32 +1,29 @@
--- `price` meets its contract, for any bytes: 1 for the tariff or for the log, or what comes of whole bands and whole records.
-use mathlib.Core.Path.{◌≡◌, refl, sym, ◌∙◌}
-use mathlib.Core.Option.{none}
-use native.Mathlib.Omega.{arith}
-use Rattle.spec.specs.Bytes.{AreBytes}
-use Rattle.spec.specs.SwitchLog.{broken_log}
-use Rattle.spec.specs.Tariff.{broken_tariff}
+use Rattle.std.proofs.Common.{refl, ap, ◌∙◌, arith}
+use Rattle.std.proofs.lemmas.Result.{err_from_is_err_and}
+use Rattle.spec.specs.Check.{numbered}
 use Rattle.laws.specs.Codec.AsBytes.{are_bytes}
-use Rattle.laws.specs.Codec.Answer.{spot_some, spot_none}
 use Rattle.wire.specs.Comes.{comes_refused}
-use Rattle.tariff.proofs.Outcomes.{by_tariff, by_broken, by_whole, settled}
+use Rattle.tariff.proofs.Outcomes.{first, later, in-order, settled}
 use Rattle.tariff.proofs.price.Goals as goal
 
-pub returns-in-At : goal.returns-in-At
-returns-in-At c =
-    let bytes : AreBytes c.args.log.now = are_bytes _ (λ j. omega (arith, c.shared_slice_known-2-1.given j)) in
-    let fault = spot_some _ _ (sym c.in-At.is ∙ c.broken-t.ensures) in
-    settled (bytes) (by_tariff _ _ _ _ fault) (comes_refused _ _ refl)
+pub returns-in_err-refuses : goal.returns-in_err-refuses
+returns-in_err-refuses c =
+    let bytes = are_bytes c.args.log.now (λ j. omega (arith, c.type_inv.log j)) in
+    let p = err_from_is_err_and c.from_residual.result c.from_residual.ensures.1 in
+    let bands = first _ (c.in_err-refuses.ensures ∙ ap (numbered 1) c.not_whole.ensures) in
+    rw (p.1, p.2) (settled bytes (in-order _ _ _ ∙ bands) (comes_refused refl))
 
-pub returns-in-At-l : goal.returns-in-At-l
-returns-in-At-l c =
-    let bands : broken_tariff c.args.tariff.now ≡ none = spot_none _ (sym c.in_default.is ∙ c.broken-t.ensures) in
-    let bytes : AreBytes c.args.log.now = are_bytes _ (λ j. omega (arith, c.shared_slice_known-2-1.given j)) in
-    let fault = spot_some _ _ (sym c.in-At-l.is ∙ c.broken-l.ensures) in
-    settled (bytes) (by_broken _ _ _ _ (bands) fault) (comes_refused _ _ refl)
+pub returns-in_err-refuses-2 : goal.returns-in_err-refuses-2
+returns-in_err-refuses-2 c =
+    let bytes = are_bytes c.args.log.now (λ j. omega (arith, c.type_inv.log j)) in
+    let p = err_from_is_err_and c.from_residual-in_err-refuses-2.result c.from_residual-in_err-refuses-2.ensures.1 in
+    let bands = later _ (c.in_ok-refuses.ensures ∙ ap (numbered 1) c.not_whole.ensures) in
+    let records = first _ (c.in_err-refuses-2.ensures ∙ ap (numbered 1) c.not_whole-2.ensures) in
+    rw (p.1, p.2) (settled bytes (in-order _ _ _ ∙ bands ∙ records) (comes_refused refl))
 
 pub returns : goal.returns
 returns c =
-    let records : broken_log c.args.log.now ≡ none = spot_none _ (sym c.in_default-l.is ∙ c.broken-l.ensures) in
-    let bands : broken_tariff c.args.tariff.now ≡ none = spot_none _ (sym c.in_default.is ∙ c.broken-t.ensures) in
-    let bytes : AreBytes c.args.log.now = are_bytes _ (λ j. omega (arith, c.shared_slice_known-2-1.given j)) in
-    settled (bytes) (by_whole _ _ _ (bands) (records)) c.price_whole.ensures
+    let bytes = are_bytes c.args.log.now (λ j. omega (arith, c.type_inv.log j)) in
+    let bands = later _ (c.in_ok-refuses.ensures ∙ ap (numbered 1) c.not_whole.ensures) in
+    let records = later _ (c.in_ok-refuses-2.ensures ∙ ap (numbered 1) c.not_whole-2.ensures) in
+    settled bytes (in-order _ _ _ ∙ bands ∙ records) c.price_whole.ensures

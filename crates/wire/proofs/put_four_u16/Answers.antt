@@ -1,19 +1,10 @@
-use mathlib.Core.Path.{refl}
-use Prim.Native.Nat.{◌+◌}
-use native.Mathlib.Omega.{arith}
-use Rattle.spec.specs.Bytes.{two}
-use Rattle.wire.specs.Joined.{four}
+use Rattle.std.proofs.Common.{◌∙◌, ap}
+use Rattle.wire.specs.Over.{over}
+use Rattle.wire.specs.Low.{low, low_two, each_four}
 use Rattle.wire.proofs.put_four_u16.Goals as goal
 
 pub returns : goal.returns
-unfolding two
 returns c =
     let a = c.args in
-    four a.s.now (two a.a) (two a.b) (two a.c) a.at (a.at + 2) (a.at + 4) (two a.d) (a.at + 6)
-    c.put_u16.ensures
-    c.put_u16-2.ensures
-    c.put_u16-3.ensures
-    c.put_u16-4.ensures
-    refl
-    (omega arith)
-    (omega arith)
+    c.put_all.ensures
+    ∙ ap (over a.s.now a.at) (each_four (low 2) a.a a.b a.c a.d ∙ rw (low_two a.a, low_two a.b, low_two a.c, low_two a.d))

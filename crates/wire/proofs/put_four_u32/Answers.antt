@@ -1,19 +1,10 @@
-use mathlib.Core.Path.{refl}
-use Prim.Native.Nat.{◌+◌}
-use native.Mathlib.Omega.{arith}
-use Rattle.spec.specs.Bytes.{two, four}
-use Rattle.wire.specs.Joined.{four as joined}
+use Rattle.std.proofs.Common.{◌∙◌, ap}
+use Rattle.wire.specs.Over.{over}
+use Rattle.wire.specs.Low.{low, low_four, each_four}
 use Rattle.wire.proofs.put_four_u32.Goals as goal
 
 pub returns : goal.returns
-unfolding four two
 returns c =
     let a = c.args in
-    joined a.s.now (four a.a) (four a.b) (four a.c) a.at (a.at + 4) (a.at + 8) (four a.d) (a.at + 12)
-    c.put_u32.ensures
-    c.put_u32-2.ensures
-    c.put_u32-3.ensures
-    c.put_u32-4.ensures
-    refl
-    (omega arith)
-    (omega arith)
+    c.put_all.ensures
+    ∙ ap (over a.s.now a.at) (each_four (low 4) a.a a.b a.c a.d ∙ rw (low_four a.a, low_four a.b, low_four a.c, low_four a.d))

@@ -1,8 +1,7 @@
--- `wire::put_u32` meets its contract: by its two halves, one behind another.
-use Rattle.wire.specs.OverLaws.{over_four}
+use Rattle.std.proofs.Common.{◌∙◌, ap}
+use Rattle.wire.specs.Over.{over}
+use Rattle.wire.specs.Low.{low_four}
 use Rattle.wire.proofs.put_u32.Goals as goal
 
 pub returns : goal.returns
-returns c =
-    let a = c.args in
-    cc (over_four a.s.now a.at a.v)
+returns c = c.put.ensures ∙ ap (over c.args.s.now c.args.at) (low_four c.args.v)

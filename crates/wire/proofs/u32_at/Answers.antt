@@ -1,8 +1,9 @@
--- `wire::u32_at` meets its contract: by its two halves.
-use native.Mathlib.Omega.{arith}
-use Rattle.spec.specs.Bytes.{long}
+use Rattle.std.proofs.Common.{◌≡◌, ◌+◌, arith}
+use Rattle.spec.specs.Bytes.{byte, word, long}
 use Rattle.wire.proofs.u32_at.Goals as goal
 
 pub returns : goal.returns
-unfolding long
-returns c = omega arith
+unfolding long word byte
+returns c =
+    let e : c.args.at + 2 + 1 ≡ c.args.at + 3 = omega arith in
+    rw e (omega arith)

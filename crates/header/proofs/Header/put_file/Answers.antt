@@ -6,9 +6,9 @@ use Rattle.header.proofs.Header.put_file.Goals as goal
 pub returns : goal.returns
 returns c =
     let a = c.args in
-    let n = c.entries_at in
+    let n = c.table_at-table in
     let e = c.file_length-end in
-    file_header_lem a.out.now a.at a.depth a.capacity a.pages a.used (32 + 2 * n.result) e.result
+    file_header_lem a.out.now a.at a.depth a.capacity a.pages a.used n.result e.result
     c.put_four_u16.ensures
     c.clear.ensures
     c.put_four_u32.ensures

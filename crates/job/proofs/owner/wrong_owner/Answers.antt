@@ -1,29 +1,21 @@
 use native.Mathlib.Omega.{arith}
+use Rattle.spec.specs.Job.{entry_place}
 use Rattle.job.proofs.Lowest.{lowest_same, lowest_or}
-use Rattle.job.proofs.Foreign.{up_none, up_more, owner_stop, owner_end}
+use Rattle.job.proofs.Foreign.{up_none, up_more, owner_told}
 use Rattle.job.proofs.owner.wrong_owner.Goals as goal
 
-pub first_stray-first-requires : goal.first_stray-first-requires
-first_stray-first-requires c = c.requires
-
 pub loop-k-init : goal.loop-k-init
-loop-k-init c = (omega arith, lowest_same _ _ _ _ (up_none c.requires) c.first_stray-first.ensures)
-
-pub first_foreign-requires : goal.first_foreign-requires
-first_foreign-requires c = (c.requires, omega arith, omega arith)
+loop-k-init c = lowest_same _ _ _ _ (up_none c.args.pages.paged) c.first_stray-first.ensures
 
 pub loop-k-preserved : goal.loop-k-preserved
 loop-k-preserved c =
-    let p = c.requires in (
-      omega (arith, c.loop-k-test.true),
-      rw c.least-first.ensures (lowest_or _ _ _ _ _ _ (λ j l. up_more p c.loop-k.k j c.loop-k-test.true) c.loop-k.invariant.1 c.first_foreign.ensures),
-    )
+    rw c.lower-first.ensures
+    (lowest_or _ _ _ _ _ _ (λ j l. up_more c.args.pages.paged c.loop-k.k j c.loop-k-test.true) c.loop-k.invariant c.first_foreign.ensures)
 
-pub entries-requires : goal.entries-requires
-entries-requires c = c.requires.heads.limits
+pub returns-in_err-first : goal.returns-in_err-first
+returns-in_err-first c =
+    rw c.from_residual.ensures (rw c.in_err-first.was at (owner_told c.args.pages.paged c.loop-k.k _ (omega arith) c.loop-k.invariant))
 
-pub returns-then-first-entries : goal.returns-then-first-entries
-returns-then-first-entries c = owner_stop c.requires c.loop-k.k _ (omega arith) c.loop-k.invariant.1 (omega arith)
-
-pub returns-else-first-entries : goal.returns-else-first-entries
-returns-else-first-entries c = owner_end c.requires c.loop-k.k _ (omega arith) c.loop-k.invariant.1 (omega arith)
+pub returns : goal.returns
+unfolding entry_place
+returns c = rw c.in_ok-first.was at (owner_told c.args.pages.paged c.loop-k.k _ (omega arith) c.loop-k.invariant)

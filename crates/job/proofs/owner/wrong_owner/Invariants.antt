@@ -1,10 +1,7 @@
-use Prim.Native.Nat.{◌-◌, ◌^◌, ◌≤◌}
-use Rattle.job.specs.Owner.{Lowest}
+use Prim.Native.Nat.{◌^◌}
+use Rattle.job.specs.Owner.{LowestOf}
 use Rattle.job.proofs.Foreign.{up_to}
 use Rattle.job.proofs.owner.wrong_owner.Given as goal
 
 abbrev pub invariant-loop-k : goal.invariant-loop-k
-invariant-loop-k l = (l.k ≤ l.used) × Lowest (up_to l.job l.k) 0 (2 ^ l.h.depth) l.first
-
-abbrev pub decreases-loop-k : goal.decreases-loop-k
-decreases-loop-k l = l.used - l.k
+invariant-loop-k l = LowestOf (up_to l.pages.reader.job.now l.k) 0 (2 ^ l.pages.reader.header.depth) l.first

@@ -13,8 +13,7 @@ use Rattle.laws.specs.Codec.Walk.{first_from_1}
 use Rattle.header.specs.declared.Header.{Header}
 use Rattle.header.specs.Counts.{counts_of}
 use Rattle.job.specs.Owner.{Paged}
-use Rattle.laws.specs.Codec.Passed.{passed_none, passed_more, passed_hit, passed_all}
-use Rattle.laws.specs.Codec.Answer.{spot_some, spot_none}
+use Rattle.laws.specs.Codec.Passed.{passed_more, passed_hit, passed_all}
 use Rattle.job.proofs.Pages.{PageIs, page_is, page-small, in_use, in_use_at}
 use Rattle.job.proofs.records.wrong_record.Invariants.{fault, pages}
 use Rattle.job.proofs.records.wrong_record.Goals as goal
@@ -29,45 +28,35 @@ told
 unfolding record_fault_in
 told e k at s l p q = rw (in_use_at e k l, ← add-one k, p.is, ← e.heads.counts, ← q)
 
-pub loop-k-init : goal.loop-k-init
-loop-k-init c =
-    let b = c.args.job.now in
-    passed_none (fault b) (pages b) zero_page
-
-pub page-requires : goal.page-requires
-page-requires c = (c.requires.heads, omega arith, omega (arith, c.requires.heads.limits.used.1))
-
-pub page_place-requires : goal.page_place-requires
-page_place-requires c = (c.requires.heads.limits, omega arith, omega (arith, c.requires.heads.limits.used.1))
-
-pub wrong_record_in-s-requires : goal.wrong_record_in-s-requires
-wrong_record_in-s-requires c =
-    let there : PageIs c.args.job.now (c.loop-k.k + 1) c.page.result.now = let p = c.requires in
+pub invariant_of-records : goal.invariant_of-records
+invariant_of-records c =
+    let p = c.args.pages.paged in
+    let there : PageIs c.args.pages.reader.job.now (c.loop-k.k + 1) c.page.result.now =
     page_is p _ _ (omega arith) (omega (arith, p.heads.limits.used.1)) c.page.ensures.0 in
-    (page-small c.requires _ _ (there) c.page.ensures.1, c.page_place.ensures.1)
+    record { small = page-small p _ _ (there) c.page.ensures.1 }
 
-pub returns-in-At : goal.returns-in-At
+pub returns-in-Some : goal.returns-in-Some
 unfolding wrong_record
-returns-in-At c =
-    let there : PageIs c.args.job.now (c.loop-k.k + 1) c.page.result.now = let p = c.requires in
+returns-in-Some c =
+    let p = c.args.pages.paged in
+    let there : PageIs c.args.pages.reader.job.now (c.loop-k.k + 1) c.page.result.now =
     page_is p _ _ (omega arith) (omega (arith, p.heads.limits.used.1)) c.page.ensures.0 in
-    let p = c.requires in
     let l = c.loop-k-test.true in
     rw first_from_1
     (passed_hit (fault _) (pages _) zero_page c.loop-k.k _ (rw (in_use p) l) c.loop-k.invariant
-    (told p c.loop-k.k _ _ l (there) c.page_place.ensures.0 ∙ spot_some _ _ (sym c.in-At.is ∙ c.wrong_record_in-s.ensures)))
+    (told p c.loop-k.k _ _ l (there) c.page_place.ensures.0 ∙ sym c.first_bad.ensures ∙ c.in-Some.is))
 
 pub loop-k-preserved : goal.loop-k-preserved
 loop-k-preserved c =
-    let there : PageIs c.args.job.now (c.loop-k.k + 1) c.page.result.now = let p = c.requires in
+    let p = c.args.pages.paged in
+    let there : PageIs c.args.pages.reader.job.now (c.loop-k.k + 1) c.page.result.now =
     page_is p _ _ (omega arith) (omega (arith, p.heads.limits.used.1)) c.page.ensures.0 in
-    let p = c.requires in
-    let b = c.args.job.now in
+    let b = c.args.pages.reader.job.now in
     passed_more (fault b) (pages b) zero_page _ c.loop-k.invariant
-    (told p c.loop-k.k _ _ c.loop-k-test.true (there) c.page_place.ensures.0 ∙ spot_none _ (sym c.in_default.is ∙ c.wrong_record_in-s.ensures))
+    (told p c.loop-k.k _ _ c.loop-k-test.true (there) c.page_place.ensures.0 ∙ sym c.first_bad.ensures ∙ c.in_default.is)
 
 pub returns : goal.returns
 unfolding wrong_record
 returns c =
     rw first_from_1
-    (passed_all (fault _) (pages _) zero_page _ (rw (in_use c.requires) c.loop-k-test.false) c.loop-k.invariant)
+    (passed_all (fault _) (pages _) zero_page _ (rw (in_use c.args.pages.paged) c.loop-k-test.false) c.loop-k.invariant)

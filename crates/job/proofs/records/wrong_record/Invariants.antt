@@ -1,6 +1,6 @@
 use mathlib.Core.List.{List}
-use mathlib.Core.Option.{Option}
-use Prim.Native.Nat.{ℕ, suc, ◌-◌}
+use Rattle.std.specs.Prelude.{Option}
+use Prim.Native.Nat.{ℕ, suc}
 use Rattle.spec.specs.File.{Page, zero_page, pages_in_use}
 use Rattle.spec.specs.Decode.{header_of, file_of}
 use Rattle.spec.specs.Check.{record_fault_in}
@@ -14,7 +14,4 @@ abbrev pub pages : List ℕ → List Page
 pages b = pages_in_use (file_of b)
 
 abbrev pub invariant-loop-k : goal.invariant-loop-k
-invariant-loop-k l = Passed (fault l.job) (pages l.job) zero_page l.k
-
-abbrev pub decreases-loop-k : goal.decreases-loop-k
-decreases-loop-k l = l.n - l.k
+invariant-loop-k l = Passed (fault l.pages.reader.job.now) (pages l.pages.reader.job.now) zero_page l.k

@@ -1,26 +1,18 @@
-use native.Mathlib.Omega.{arith}
-use native.Mathlib.Nat.{add-zero}
+use mathlib.Core.Path.{◌∙◌}
 use borrow.Author.Tests.{lt-ltb, le-ltb}
 use Rattle.spec.specs.Basics.{if}
-use Rattle.spec.specs.Check.{not_zero, page_fault}
-use Rattle.job.proofs.Refused.{passed, row_hit, row_next, rows_end}
+use Rattle.spec.specs.Check.{page_fault}
+use Rattle.job.proofs.Refused.{last_row}
 use Rattle.job.proofs.table.page_fault.Goals as goal
 
-pub returns-then-x-h : goal.returns-then-x-h
+pub returns-then-x-reader : goal.returns-then-x-reader
 unfolding page_fault if
-returns-then-x-h c = rw (le-ltb _ _ c.if-x-h.true, ← c.page_place-place.ensures.0) c.used_page_fault.ensures
+returns-then-x-reader c =
+    rw (← c.args.reader.heads.counts, le-ltb _ _ c.if-x-reader.true, ← c.page_place-place.ensures.0)
+    (rw (c.page-page.ensures.0, ← c.args.reader.heads.counts) at c.used_page_fault.ensures)
 
-pub not_zero-s-requires : goal.not_zero-s-requires
-not_zero-s-requires c = (omega arith, omega arith, omega arith)
-
-pub returns-in-At : goal.returns-in-At
+pub returns-else-x-reader : goal.returns-else-x-reader
 unfolding page_fault if
-returns-in-At c =
-    rw (lt-ltb _ _ c.if-x-h.false, ← c.page_place-place.ensures.0)
-    (row_hit 13 (not_zero _) _ _ _ _ (rw add-zero at c.not_zero-s.ensures) c.in-At.is)
-
-pub returns : goal.returns
-unfolding page_fault if
-returns c =
-    rw (lt-ltb _ _ c.if-x-h.false, ← c.page_place-place.ensures.0)
-    (row_next 13 (not_zero _) _ _ _ (passed _ _ (rw add-zero at c.not_zero-s.ensures) c.in_default.is) (rows_end _))
+returns-else-x-reader c =
+    rw (← c.args.reader.heads.counts, lt-ltb _ _ c.if-x-reader.false, ← c.page_place-place.ensures.0)
+    (rw (c.not_zero.ensures, c.page-page.ensures.0, ← c.args.reader.heads.counts) at c.refuses.ensures ∙ last_row _ _)

@@ -1,53 +1,47 @@
-use mathlib.Core.Path.{◌≡◌, refl, sym, ◌∙◌}
+use mathlib.Core.Path.{refl, sym, ◌∙◌}
 use mathlib.Core.Bool.{Bool}
 use mathlib.Core.List.{List}
 use Prim.Native.Nat.{ℕ}
+use borrow.Author.Tests.{tests}
 use native.Mathlib.Omega.{arith}
 use lib.ListN.{get_or}
+use Rattle.std.proofs.Common.{rules}
+use Rattle.std.proofs.lemmas.Iterator.{YieldsList-from_range}
+use Rattle.std.proofs.lemmas.Iterator.Search.{find_from_yields_List}
 use Rattle.spec.specs.Job.{entry_place}
 use Rattle.spec.specs.Decode.{file_of, job_of}
 use Rattle.spec.specs.Check.{outside, entry_fault, wrong_entry}
-use Rattle.header.specs.declared.Header.{Header}
-use Rattle.header.specs.Counts.{Heads}
 use Rattle.header.specs.Sections.{entries-count}
-use Rattle.laws.specs.Codec.Passed.{clear_none, clear_more, clear_hit, clear_all}
-use Rattle.job.proofs.table.wrong_entry.Invariants.{bad, entries}
+use Rattle.job.proofs.Found.{as_found, found, found_below}
 use Rattle.job.proofs.table.wrong_entry.Goals as goal
 
--- what the code tests
-told
-    : {h : Header} {b : List ℕ} (e : Heads h b) (j r : ℕ) (s : Bool)
-    → r ≡ get_or (entries b) j 0
-    → outside 1 h.used r ≡ s
-    → bad b j (get_or (entries b) j 0) ≡ s
-unfolding job_of file_of
-told e j r s p q = rw (← p, ← e.counts) q
+abbrev entries : List ℕ → List ℕ
+entries b = (job_of b).file.directory
 
-pub entries-n-requires : goal.entries-n-requires
-entries-n-requires c = c.requires.limits
+abbrev bad : List ℕ → ℕ → ℕ → Bool
+bad b used j = outside 1 used (get_or (entries b) j 0)
 
-pub loop-j-init : goal.loop-j-init
-loop-j-init c =
-    let b = c.args.job.now in
-    clear_none (bad b) (entries b) 0
+pub returns-in_err-j : goal.returns-in_err-j
+unfolding wrong_entry entry_fault job_of file_of entry_place
+returns-in_err-j c =
+    let e = as_found (find_from_yields_List (bad c.args.reader.job.now c.args.reader.header.used) _ _ c.find.result c.find.ensures.ran (YieldsList-from_range 0 c.entries.result c.entries.result refl (omega arith)) (λ x b q k. search (rules, tests))) in
+    rw c.from_residual.ensures
+    (rw (sym e ∙ c.in_err-j.was) at (found (λ j x. outside 1 (job_of c.args.reader.job.now).file.used x) 0 entry_place (bad c.args.reader.job.now c.args.reader.header.used) (entries c.args.reader.job.now) _ (entries-count c.args.reader.heads ∙ sym c.entries.ensures.0) (λ j l. rw (← c.args.reader.heads.counts))))
 
-pub entry-requires : goal.entry-requires
-entry-requires c = (c.requires, omega arith)
+pub overflow_mul-result : goal.overflow_mul-result
+overflow_mul-result c =
+    let e = as_found (find_from_yields_List (bad c.args.reader.job.now c.args.reader.header.used) _ _ c.find.result c.find.ensures.ran (YieldsList-from_range 0 c.entries.result c.entries.result refl (omega arith)) (λ x b q k. search (rules, tests))) in
+    let l = found_below (bad c.args.reader.job.now c.args.reader.header.used) 0 c.entries.result c.in_ok-j.j (sym c.in_ok-j.was ∙ e) in
+    omega (arith, l, c.entries.ensures.1)
 
-pub returns-then-is_outside : goal.returns-then-is_outside
-unfolding job_of wrong_entry entry_fault entry_place
-returns-then-is_outside c =
-    let e = c.requires in
-    clear_hit (bad _) (entries _) 0 entry_place c.loop-j.j _ (rw (entries-count e) (omega arith)) c.loop-j.invariant
-    (told e c.loop-j.j _ _ c.entry.ensures.0 (sym c.is_outside.ensures ∙ c.if-is_outside.true)) refl
-
-pub loop-j-preserved : goal.loop-j-preserved
-loop-j-preserved c =
-    let e = c.requires in
-    clear_more (bad _) (entries c.args.job.now) 0 _ c.loop-j.invariant
-    (told e c.loop-j.j _ _ c.entry.ensures.0 (sym c.is_outside.ensures ∙ c.if-is_outside.false))
+pub overflow_add-result : goal.overflow_add-result
+overflow_add-result c =
+    let e = as_found (find_from_yields_List (bad c.args.reader.job.now c.args.reader.header.used) _ _ c.find.result c.find.ensures.ran (YieldsList-from_range 0 c.entries.result c.entries.result refl (omega arith)) (λ x b q k. search (rules, tests))) in
+    let l = found_below (bad c.args.reader.job.now c.args.reader.header.used) 0 c.entries.result c.in_ok-j.j (sym c.in_ok-j.was ∙ e) in
+    omega (arith, l, c.entries.ensures.1)
 
 pub returns : goal.returns
-unfolding job_of wrong_entry entry_fault
+unfolding wrong_entry entry_fault job_of file_of entry_place
 returns c =
-    clear_all (bad _) (entries _) 0 entry_place _ (rw (entries-count c.requires) (omega arith)) c.loop-j.invariant
+    let e = as_found (find_from_yields_List (bad c.args.reader.job.now c.args.reader.header.used) _ _ c.find.result c.find.ensures.ran (YieldsList-from_range 0 c.entries.result c.entries.result refl (omega arith)) (λ x b q k. search (rules, tests))) in
+    (rw (sym e ∙ c.in_ok-j.was) at (found (λ j x. outside 1 (job_of c.args.reader.job.now).file.used x) 0 entry_place (bad c.args.reader.job.now c.args.reader.header.used) (entries c.args.reader.job.now) _ (entries-count c.args.reader.heads ∙ sym c.entries.ensures.0) (λ j l. rw (← c.args.reader.heads.counts))))

@@ -1,6 +1,6 @@
 use mathlib.Core.List.{List, []}
-use mathlib.Core.Option.{Option}
-use Prim.Native.Nat.{ℕ, suc, ◌-◌}
+use Rattle.std.specs.Prelude.{Option}
+use Prim.Native.Nat.{ℕ, suc}
 use Rattle.spec.specs.Decode.{header_of, page_parts}
 use Rattle.spec.specs.Check.{Fault, page_fault}
 use Rattle.laws.specs.Codec.Passed.{Passed}
@@ -13,7 +13,4 @@ abbrev pub pages : List ℕ → List (List ℕ)
 pages b = page_parts (header_of b) b
 
 abbrev pub invariant-loop-k : goal.invariant-loop-k
-invariant-loop-k l = Passed (fault l.job) (pages l.job) [] l.k
-
-abbrev pub decreases-loop-k : goal.decreases-loop-k
-decreases-loop-k l = l.n - l.k
+invariant-loop-k l = Passed (fault l.reader.job.now) (pages l.reader.job.now) [] l.k

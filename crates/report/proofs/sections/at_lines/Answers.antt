@@ -1,34 +1,29 @@
-use mathlib.Core.Path.{◌≡◌, sym}
-use Prim.Native.Nat.{ℕ, ◌*◌}
-use native.Mathlib.Omega.{arith}
+use Rattle.std.proofs.Common.{arith, sym, ◌∙◌, length, length-append}
 use Rattle.spec.specs.Basics.{each}
 use Rattle.spec.specs.Bytes.{parts}
-use Rattle.spec.specs.Report.{at_line}
-use Rattle.wire.specs.WroteLaws.{none, then, same, wider, kept}
-use Rattle.wire.specs.Parts.{length_part}
 use Rattle.spec.specs.Result.{line_of}
-use Rattle.text.specs.Sections.{lent, each_more}
+use Rattle.spec.specs.Report.{at_line}
+use Rattle.text.specs.AddedLaws.{none, then, same, wider}
+use Rattle.text.specs.Sections.{none_taken, one_taken, each_more}
 use Rattle.report.proofs.sections.at_lines.Goals as goal
 
-pub loop-i-init : goal.loop-i-init
+pub loop-line-init : goal.loop-line-init
 unfolding each parts
-loop-i-init c = (omega arith, none _ _)
+loop-line-init c =
+    let cut = c.chunks_exact-line-items.ensures in
+    rw (c.into_iter-line-iterator.ensures.into_iter_gives) (omega (arith, cut.size), tt, cut.size, none_taken 4 cut.rest, none _)
 
-pub at_line-end-requires : goal.at_line-end-requires
-at_line-end-requires c =
-    let k = kept c.loop-i.invariant.1 in
+pub loop-line-preserved : goal.loop-line-preserved
+loop-line-preserved c =
+    let inv = c.loop-line.invariant in
+    let step = c.in-Some.ensures.steps in
     let s = c.args.log.now in
-    let p : ℕ = 4 * c.loop-i.i in
-    (omega arith, rw (lent s p 4) (omega (arith, length_part s p 4 (omega arith))))
-
-pub loop-i-preserved : goal.loop-i-preserved
-loop-i-preserved c =
-    let s = c.args.log.now in
-    let l = c.loop-i in
-    let w = rw (lent s (4 * l.i) 4) at c.at_line-end.ensures in
-    (omega arith, wider (omega arith) (same (sym (each_more at_line line_of l.i 4 s)) (then l.invariant.1 w)))
-
-pub returns : goal.returns
-returns c =
-    let e : c.loop-i.i ≡ c.args.n = omega arith in
-    rw e at c.loop-i.invariant.1
+    let n = length c.loop-line.yielded in
+    let taken = one_taken inv.3 step.1.0 (step.1.1 ∙ inv.2) in
+    rw (length-append c.loop-line.yielded _) (
+      omega arith,
+      tt,
+      step.0 ∙ inv.2,
+      taken.1,
+      wider (omega arith) (same (sym (each_more at_line line_of n 4 s)) (then inv.4 (rw taken.0 at c.at_line.ensures))),
+    )

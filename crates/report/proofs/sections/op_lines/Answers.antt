@@ -1,35 +1,49 @@
-use mathlib.Core.Path.{◌≡◌, sym}
-use Prim.Native.Nat.{ℕ, ◌*◌}
-use native.Mathlib.Omega.{arith}
+use Rattle.std.proofs.Common.{rules, arith, sym, ap, ◌∙◌, ◌≡◌, ◌+◌, ◌/◌, length, length-append}
+use Rattle.std.specs.Iterator.Adapters.{zip_first, zip_second}
+use Rattle.std.specs.Slice.Iter.{chunks_exact_rest, chunks_exact_size}
 use Rattle.spec.specs.Bytes.{parts}
 use Rattle.spec.specs.Report.{op_lines}
-use Rattle.wire.specs.WroteLaws.{none, then, same, wider, kept}
-use Rattle.wire.specs.Parts.{length_part}
-use Rattle.text.specs.Sections.{lent}
+use Rattle.text.specs.AddedLaws.{none, then, same, wider}
+use Rattle.text.specs.Sections.{none_taken, one_taken, count_taken}
 use Rattle.report.proofs.Laws.{op-more}
 use Rattle.report.proofs.sections.op_lines.Goals as goal
 
 pub loop-i-init : goal.loop-i-init
 unfolding op_lines parts
-loop-i-init c = (omega arith, none _ _)
-
-pub op_line-end-requires : goal.op_line-end-requires
-op_line-end-requires c =
-    let k = kept c.loop-i.invariant.1 in
-    let a = c.args in
-    let i : ℕ = c.loop-i.i in
-    let o = length_part a.ops.now (10 * i) 10 (omega arith) in
-    let t = length_part a.answers.now (8 * i) 8 (omega arith) in
-    (omega arith, rw (lent a.ops.now (10 * i) 10) (omega arith), rw (lent a.answers.now (8 * i) 8) (omega arith))
+loop-i-init c =
+    let from = c.enumerate-i-items.ensures in
+    let ops = c.chunks_exact.ensures in
+    let answers = c.chunks_exact-2.ensures in
+    let both = c.zip.ensures in
+    let first = ap zip_first from.source ∙ both.first in
+    let second = ap zip_second from.source ∙ both.second in
+    rw (c.into_iter-i-iterator.ensures.into_iter_gives) (
+      search rules,
+      tt,
+      from.count,
+      ap chunks_exact_size first ∙ ops.size,
+      none_taken 10 (ap chunks_exact_rest first ∙ ops.rest),
+      ap chunks_exact_size second ∙ answers.size,
+      none_taken 8 (ap chunks_exact_rest second ∙ answers.rest),
+      none _,
+    )
 
 pub loop-i-preserved : goal.loop-i-preserved
 loop-i-preserved c =
+    let inv = c.loop-i.invariant in
+    let step = c.in-Some.ensures.steps in
     let a = c.args in
-    let l = c.loop-i in
-    let w = rw (lent a.ops.now (10 * l.i) 10, lent a.answers.now (8 * l.i) 8) at c.op_line-end.ensures in
-    (omega arith, wider (omega arith) (same (sym (op-more a.m l.i a.ops.now a.answers.now (omega arith))) (then l.invariant.1 w)))
-
-pub returns : goal.returns
-returns c =
-    let e : c.loop-i.i ≡ c.args.m = omega arith in
-    rw e at c.loop-i.invariant.1
+    let n = length c.loop-i.yielded in
+    let op = one_taken inv.4 step.0.0.1.0 (step.0.0.1.1 ∙ inv.3) in
+    let answer = one_taken inv.6 step.0.1.1.0 (step.0.1.1.1 ∙ inv.5) in
+    let number : c.in-Some.i ≡ n = step.1 ∙ inv.2 in
+    rw (length-append c.loop-i.yielded _) (
+      search rules,
+      tt,
+      step.2 ∙ ap (λ k. k + 1) inv.2,
+      step.0.0.0 ∙ inv.3,
+      op.1,
+      step.0.1.0 ∙ inv.5,
+      answer.1,
+      wider (omega arith) (same (sym (op-more (length a.ops.now / 10) n a.ops.now a.answers.now (count_taken (omega arith) op.1))) (then inv.7 (rw (op.0, answer.0, number) at c.op_line.ensures))),
+    )

@@ -1,31 +1,18 @@
-use mathlib.Core.Path.{◌≡◌, ap, ◌∙◌}
-use native.Mathlib.Omega.{arith}
-use lib.ListN.{get_or}
-use Rattle.spec.specs.Tariff.{Band, no_band, bands_of}
-use Rattle.tariff.proofs.Filled.{bad_code, bad_low, bad_high}
+use Rattle.std.proofs.Common.{◌≡◌, ℕ, Bool, true, false, not, ◌&&◌, ◌||◌, ltb, refl, rules, tests}
+use Rattle.std.specs.Ordering.{is_le, nat_cmp}
+use Rattle.spec.specs.Check.{outside}
 use Rattle.tariff.proofs.bands.is_bad.Goals as goal
 
-pub returns-then-index-code : goal.returns-then-index-code
-returns-then-index-code c =
-    let code_is : let a = c.args in
-    c.code.result ≡ (get_or (bands_of a.tariff.now) a.i no_band).code = c.code.ensures.0 ∙ ap (λ (b : Band). b.code) c.band-band.ensures.0 in
-    let p = c.requires in
-    bad_code _ _ _ _ _ (code_is) (p.1.says _ c.code.ensures.1) (λ z. omega arith)
+le_is : (a b : ℕ) → is_le (nat_cmp a b) ≡ not (ltb b a)
+le_is a b = search (tests, rules)
 
-pub returns-then-unit-lt1 : goal.returns-then-unit-lt1
-returns-then-unit-lt1 c =
-    let code_is : let a = c.args in
-    c.code.result ≡ (get_or (bands_of a.tariff.now) a.i no_band).code = c.code.ensures.0 ∙ ap (λ (b : Band). b.code) c.band-band.ensures.0 in
-    let p = c.requires in
-    bad_low _ _ _ _ _ (code_is) (p.1.says _ c.code.ensures.1) (omega arith) _
-    (c.unit-unit.ensures.0 ∙ ap (λ (b : Band). b.unit) c.band-band.ensures.0)
-    (omega arith)
+not_and : (s t : Bool) → not (not s && not t) ≡ (s || t)
+not_and true t = refl
+not_and false true = refl
+not_and false false = refl
 
-pub returns : goal.returns
-returns c =
-    let code_is : let a = c.args in
-    c.code.result ≡ (get_or (bands_of a.tariff.now) a.i no_band).code = c.code.ensures.0 ∙ ap (λ (b : Band). b.code) c.band-band.ensures.0 in
-    let p = c.requires in
-    bad_high _ _ _ _ _ (code_is) (p.1.says _ c.code.ensures.1) (omega arith) _
-    (c.unit-unit.ensures.0 ∙ ap (λ (b : Band). b.unit) c.band-band.ensures.0)
-    (omega arith)
+pub returns-else-is_some : goal.returns-else-is_some
+unfolding outside
+returns-else-is_some c =
+    rw (c.contains.ensures.value, c.new.ensures.start, c.new.ensures.end, c.new.ensures.exhausted, ← c.is_some.ensures, c.if-is_some.false, le_is 1 c.args.band.unit, le_is c.args.band.unit 3600)
+    (not_and _ _)

@@ -1,37 +1,39 @@
--- `inserts::write` meets its contract: an insert for each record, one behind another.
-use mathlib.Core.Path.{ap, ◌∙◌}
-use native.Mathlib.Omega.{arith}
-use lib.ListN.{length}
-use Rattle.laws.specs.Codec.Whole.{log-count}
-use Rattle.laws.specs.Tariff.{logged_good}
+use Rattle.std.specs.Prelude.{◌*◌, ◌≡◌, refl}
+use Rattle.std.proofs.Common.{ap, ◌∙◌, arith}
+use Rattle.std.proofs.lemmas.Result.{IfOk-at_ok}
+use Rattle.spec.specs.declared.Op.{Op}
+use Rattle.spec.specs.Encode.{op_bytes}
+use Rattle.spec.specs.SwitchLog.{logged_size, logged_of, no_logged}
+use Rattle.spec.specs.Tariff.{bands_of, charge_of}
 use Rattle.laws.specs.Priced.{size}
-use Rattle.wire.specs.OverLaws.{length_over}
-use Rattle.tariff.proofs.Bytes.{put_none, put_more, put_all}
+use Rattle.wire.specs.Over.{over}
+use Rattle.switchlog.specs.Parts.{reads-count, reads_at}
+use Rattle.switchlog.specs.Read.{logged_in}
+use Rattle.tariff.proofs.Bytes.{insert_for_lem, put_none, put_more, put_all}
+use Rattle.tariff.proofs.Refusals.{record_passed}
 use Rattle.tariff.proofs.inserts.write.Goals as goal
 
 pub loop-i-init : goal.loop-i-init
-loop-i-init c =
-    let a = c.args in
-    (omega arith, put_none a.tariff.now a.log.now a.out.now)
+loop-i-init c = put_none c.args.bands.now.tariff.now c.args.log.now c.args.out.now
 
-pub overflow_mul-i : goal.overflow_mul-i
-overflow_mul-i c = omega (arith, log-count c.args.log.now)
-
-pub put_logged-requires : goal.put_logged-requires
-put_logged-requires c =
-    let z = ap length c.loop-i.invariant.1 ∙ length_over c.args.out.now 0 _ in
-    let good = logged_good _ _ c.loop-i.i c.requires.1 (omega arith) in
-    (c.requires.0, c.record.ensures.1, rw c.record.ensures.0 good.0, rw c.record.ensures.0 good.1, omega (arith, z, c.requires.2))
+pub unwrap-requires : goal.unwrap-requires
+unwrap-requires c =
+    let n = reads-count logged_of _ _ c.records-records.ensures in
+    let read = c.read-logged.ensures ∙ reads_at logged_of _ _ c.records-records.ensures c.loop-i.i no_logged c.loop-i-test.true in
+    record_passed _ _ c.loop-i.i _ c.requires.0 (omega arith) read (c.charge.ensures.fault (logged_size * c.loop-i.i))
 
 pub loop-i-preserved : goal.loop-i-preserved
 loop-i-preserved c =
-    let a = c.args in
-    (omega arith, put_more a.tariff.now a.log.now a.out.now _ _ c.loop-i.i _ (omega arith) c.loop-i.invariant.1 c.record.ensures.0 c.put_logged.ensures)
-
-pub overflow_mul-result : goal.overflow_mul-result
-overflow_mul-result c = omega (arith, log-count c.args.log.now)
+    let t = c.args.bands.now.tariff.now in
+    let n = reads-count logged_of _ _ c.records-records.ensures in
+    let read = c.read-logged.ensures ∙ reads_at logged_of _ _ c.records-records.ensures c.loop-i.i no_logged c.loop-i-test.true in
+    let r = logged_in c.read-logged.result in
+    let charge = IfOk-at_ok (λ x. x ≡ charge_of (bands_of t) r) c.unwrap.ensures c.charge.ensures.charge in
+    let put = c.put_insert.ensures ∙ ap (λ (o : Op). over c.loop-i.out (10 * c.loop-i.i) (op_bytes o)) (insert_for_lem (bands_of t) r _ _ refl charge) in
+    put_more t c.args.log.now c.args.out.now _ _ c.loop-i.i _ (omega arith) c.loop-i.invariant read put
 
 pub returns : goal.returns
 returns c =
-    let a = c.args in
-    (omega (arith, size a.tariff.now a.log.now), put_all a.tariff.now a.log.now a.out.now _ c.loop-i.i (omega arith) c.loop-i.invariant.1)
+    let t = c.args.bands.now.tariff.now in
+    let n = reads-count logged_of _ _ c.records-records.ensures in
+    (omega (arith, size t c.args.log.now), put_all t c.args.log.now c.args.out.now _ c.loop-i.i (omega arith) c.loop-i.invariant)

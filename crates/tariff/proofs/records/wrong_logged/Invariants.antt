@@ -1,7 +1,4 @@
--- `records::wrong_logged` meets its contract: the fault of the first record that has one.
-use mathlib.Core.List.{List}
-use mathlib.Core.Option.{Option}
-use Prim.Native.Nat.{ℕ, ◌*◌, ◌-◌}
+use Rattle.std.specs.Prelude.{ℕ, ◌*◌, List, Option}
 use Rattle.spec.specs.Check.{Fault}
 use Rattle.spec.specs.SwitchLog.{Logged, logged_size, no_logged, switch_log}
 use Rattle.spec.specs.Tariff.{bands_of, logged_fault}
@@ -11,8 +8,6 @@ use Rattle.tariff.proofs.records.wrong_logged.Given as goal
 abbrev pub fault : List ℕ → ℕ → Logged → Option Fault
 fault t i = logged_fault (bands_of t) (logged_size * i)
 
+-- no record before record i is refused
 abbrev pub invariant-loop-i : goal.invariant-loop-i
-invariant-loop-i l = Passed (fault l.tariff) (switch_log l.log) no_logged l.i
-
-abbrev pub decreases-loop-i : goal.decreases-loop-i
-decreases-loop-i l = l.n - l.i
+invariant-loop-i l = Passed (fault l.bands.tariff.now) (switch_log l.log) no_logged l.i

@@ -5,7 +5,4 @@ use Rattle.turn.proofs.entries.last_one.Given as goal
 
 abbrev pub invariant-loop-k : goal.invariant-loop-k
 invariant-loop-k l =
-    (l.k ≤ l.n) × (l.last ≤ l.k) × (last_one l.g l.call l.e l.n l.d 1 0 ≡ last_one l.g l.call l.e (l.n - l.k) (l.d + l.k) (l.k + 1) l.last)
-
-abbrev pub decreases-loop-k : goal.decreases-loop-k
-decreases-loop-k l = l.n - l.k
+    (l.last ≤ l.k) × (last_one l.g l.call l.e l.n l.d 1 0 ≡ last_one l.g l.call l.e (l.n - l.k) (l.d + l.k) (l.k + 1) l.last)

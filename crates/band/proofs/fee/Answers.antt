@@ -1,6 +1,0 @@
-use Rattle.spec.specs.Tariff.{band_of}
-use Rattle.band.proofs.fee.Goals as goal
-
-pub returns : goal.returns
-unfolding band_of
-returns c = c.u32_at.ensures

@@ -1,7 +1,0 @@
-use Prim.Native.Nat.{◌^◌, ◌≤◌}
-use native.Mathlib.Omega.{arith}
-use lib.Pow.{pow_mono}
-use Rattle.header.proofs.Header.entries.Goals as goal
-
-pub returns : goal.returns
-returns c = let h : 2 ^ c.args.self.depth ≤ 2 ^ 8 = pow_mono c.requires.depth in omega arith

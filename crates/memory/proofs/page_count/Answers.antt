@@ -1,6 +1,0 @@
-use Rattle.memory.specs.Memory.{page_in}
-use Rattle.memory.proofs.page_count.Goals as goal
-
-pub returns : goal.returns
-unfolding page_in
-returns c = (rw c.part.ensures.0 at c.count.ensures.0, c.count.ensures.2)

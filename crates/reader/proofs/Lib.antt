@@ -1,0 +1,3 @@
+-- No contract cites these files.
+pub mod Numbers
+pub mod Chunks

@@ -1,6 +1,0 @@
-use Rattle.spec.specs.SwitchLog.{logged_of}
-use Rattle.switchlog.proofs.spare.Goals as goal
-
-pub returns : goal.returns
-unfolding logged_of
-returns c = c.u8_at.ensures.0
