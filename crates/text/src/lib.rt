@@ -3,7 +3,7 @@
 
 ghost use Rattle.std.specs.Prelude.{◌≡◌, [], ◌∷◌, ◌++◌, ◌≤◌, ◌+◌, length};
 ghost use Rattle.spec.specs.Report.{decimal};
-ghost use Rattle.text.specs.Added.{Added, Room};
+ghost use Rattle.text.specs.Added.{Added, Room, IsIn, buffer, written};
 
 // The text so far is the first `len` bytes of the buffer. (Each method asks for the room that it needs. This is no
 // `fmt::Write`, whose methods answer an error: here none can come, and `report`, which cannot fail, would have one to answer.)
@@ -15,15 +15,15 @@ pub struct Text<'a> {
 
 impl<'a> Text<'a> {
     pub fn new(out: &'a mut [u8]) -> Text<'a>
-        ensures lent { result.out.ghost_name ≡ out.entry.ghost_name }
-        ensures bytes { result.out.now ≡ out.old }
-        ensures empty { result.len ≡ 0 }
+        ensures lent { IsIn out.entry result }
+        ensures bytes { buffer result ≡ out.old }
+        ensures empty { written result ≡ 0 }
     {
         Text { out, len: 0 }
     }
 
     pub fn len(&self) -> usize
-        ensures { result ≡ self.now.len }
+        ensures { result ≡ written self.now }
     {
         self.len
     }
