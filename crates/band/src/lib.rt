@@ -74,12 +74,16 @@ impl Band {
         self.prices[Class::of(start as usize / 3600 % 24) as usize]
     }
 
-    // "the started units beyond the free seconds"
+    // "the started units beyond the free seconds". (Within them nothing is divided: that would take longer than all the rest.)
     fn units(self, talked: u32) -> usize
         requires { min_unit ≤ self.unit }
         ensures { (result ≡ started_units (band_in self) talked) × (result ≤ max_long) }
     {
-        let beyond = talked.saturating_sub(self.free as u32) as usize;
+        let free = self.free as u32;
+        if talked <= free {
+            return 0;
+        }
+        let beyond = (talked - free) as usize;
         let unit = self.unit as usize;
         (beyond + (unit - 1)) / unit
     }

@@ -12,7 +12,7 @@ ghost use Rattle.wire.specs.Over.{over};
 ghost use Rattle.run.specs.Call.{lengths};
 ghost use Rattle.deal.specs.Call.{Accepted, Dealt, Settled};
 
-use reader::Reader;
+use reader::Headed;
 use run::Lent;
 use spec::{Reason, Refusal};
 use turn::Row;
@@ -22,7 +22,7 @@ const MORE: usize = 20476;
 
 // "21 (turns present, at their count) after the job's own refusals, then 11". A job for which turns are dealt comes back as its reader.
 // (Not one function with that of a run: row 21 stands between its two rows, and they ask for different room.)
-fn check_all(job: &[u8], lent: Lent) -> Result<Reader<'_>, Refusal>
+fn check_all(job: &[u8], lent: Lent) -> Result<Headed<'_>, Refusal>
     ensures fault { fault_in result ≡ deal_fault (lengths lent) job.now }
     ensures read { IfOk result (λ r. r.job ≡ job.entry) }
 {
@@ -48,7 +48,7 @@ fn write_job(job: &[u8], n: usize, out: &mut [u8]) -> usize
 }
 
 // From the file as it came in, turns are dealt until all have finished; then the job is written, and what was lent is cleared.
-fn deal_accepted(reader: Reader, out: &mut [u8], rows: &mut [Row], work: &mut [u8]) -> usize
+fn deal_accepted(reader: Headed, out: &mut [u8], rows: &mut [Row], work: &mut [u8]) -> usize
     requires { Accepted reader.job.now out.old rows.old work.old }
     ensures { Dealt reader.entry.job.now out.old out.new rows.old rows.new work.old work.new result }
 {

@@ -14,12 +14,12 @@ ghost use Rattle.spec.specs.Cases.{fault_in};
 
 use crate::paged::Pages;
 use header::Header;
-use reader::Reader;
+use reader::{Headed, Reader};
 use spec::{Reason, Refusal};
 
 // The rows in the order of `Check.rows`, then "by lowest place". Of any bytes: no row is looked at before those that it rests on have passed. An
 // accepted job comes back as its reader.
-pub fn check(job: &[u8]) -> Result<Reader<'_>, Refusal>
+pub fn check(job: &[u8]) -> Result<Headed<'_>, Refusal>
     ensures fault { fault_in result ≡ job_fault job.now }
     ensures read { IfOk result (λ r. r.job ≡ job.entry) }
 {
@@ -28,7 +28,7 @@ pub fn check(job: &[u8]) -> Result<Reader<'_>, Refusal>
     let h = Header::read(job);
     Reason::Limit.refuses(head::over_limit(job, h))?;
     Reason::Offset.refuses(head::wrong_offset(job, h))?;
-    let reader = Reader::new(job, h);
+    let reader = Reader::new(job, h).headed();
     Reason::Entry.refuses(table::wrong_entry(reader))?;
     table::wrong_page(reader)?;
     let pages = Pages { reader };

@@ -8,7 +8,7 @@ ghost use Rattle.job.specs.Owner.{stray, foreign, other, LowestOf, lower};
 
 use crate::paged::Pages;
 use header::Header;
-use reader::Reader;
+use reader::Headed;
 
 // The page that entry j names does not begin it. (Entry j, and page x below, are asked to be there as the reader asks it.)
 fn is_stray(pages: Pages, j: usize) -> bool
@@ -28,7 +28,7 @@ fn first_stray(pages: Pages) -> Option<usize>
 }
 
 // The first of the entries from .. to that does not name page x. (Two numbers and no range: the contract speaks of either end.)
-fn first_other(reader: Reader, x: usize, from: usize, to: usize) -> Option<usize>
+fn first_other(reader: Headed, x: usize, from: usize, to: usize) -> Option<usize>
     requires { (from ≤ to) × (to ≤ 2 ^ reader.header.depth) }
     ensures { LowestOf (other reader.entry.job.now x) from to result }
 {

@@ -10,11 +10,11 @@ ghost use Rattle.header.specs.Counts.{counts_of};
 
 use crate::head;
 use header::Header;
-use reader::Reader;
+use reader::Headed;
 use spec::{Reason, Refusal};
 
 // 5 entry: "0 or above U"
-pub fn wrong_entry(reader: Reader) -> Option<usize>
+pub fn wrong_entry(reader: Headed) -> Option<usize>
     ensures { result ≡ wrong_entry reader.entry.job.now }
 {
     let used = reader.header.used;
@@ -74,7 +74,7 @@ fn used_page_fault(h: Header, page: &[u8], place: usize) -> Result<(), Refusal>
 }
 
 // "on an unused page 13 alone": the rows of page x.
-fn page_fault(reader: Reader, x: usize) -> Result<(), Refusal>
+fn page_fault(reader: Headed, x: usize) -> Result<(), Refusal>
     requires { (1 ≤ x) × (x ≤ reader.header.pages) }
     ensures { fault_in result ≡ page_fault (header_of reader.entry.job.now) x (get_or (page_parts (header_of reader.entry.job.now) reader.entry.job.now) (x - 1) []) }
 {
@@ -88,7 +88,7 @@ fn page_fault(reader: Reader, x: usize) -> Result<(), Refusal>
 }
 
 // "within each page before the next page is looked at"
-pub fn wrong_page(reader: Reader) -> Result<(), Refusal>
+pub fn wrong_page(reader: Headed) -> Result<(), Refusal>
     ensures { fault_in result ≡ wrong_page reader.entry.job.now }
 {
     for k in 0..reader.header.pages {

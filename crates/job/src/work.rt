@@ -2,7 +2,7 @@
 ghost use Rattle.std.specs.Prelude.{◌≡◌};
 ghost use Rattle.spec.specs.Check.{bad_op, wrong_op, wrong_turn};
 
-use reader::Reader;
+use reader::Headed;
 use spec::Kind;
 
 // 9 operation: "kind not 1 to 3, spare byte or charge not zero where it must be"
@@ -18,7 +18,7 @@ fn bad_op(op: &[u8; 10]) -> bool
     }
 }
 
-pub fn wrong_op(reader: Reader) -> Option<usize>
+pub fn wrong_op(reader: Headed) -> Option<usize>
     ensures { result ≡ wrong_op reader.entry.job.now }
 {
     let i = (0..reader.header.ops).find(|i| bad_op(reader.op_bytes(*i)))?;
@@ -26,7 +26,7 @@ pub fn wrong_op(reader: Reader) -> Option<usize>
 }
 
 // 10 turn: "m or above"
-pub fn wrong_turn(reader: Reader) -> Option<usize>
+pub fn wrong_turn(reader: Headed) -> Option<usize>
     ensures { result ≡ wrong_turn reader.entry.job.now }
 {
     let m = reader.header.ops;

@@ -20,12 +20,12 @@ use Rattle.memory.specs.Places.{part_fits, part_length, part_room}
 abbrev pub lent_part : List ℕ → ℕ → ℕ → List ℕ
 lent_part w at e = take (e - at) (drop at w)
 
-span_size : {c x at e : ℕ} → Stands c x at e → e - at ≡ page_size c
-span_size i = omega (arith, i.begins, i.ends)
+span_size : (c x : ℕ) {at e : ℕ} → at ≡ place_of c x → e ≡ place_of c x + page_size c → e - at ≡ page_size c
+span_size c x a z = omega (arith, a, z)
 
-pub lent : {c x at e : ℕ} (w : List ℕ) → Stands c x at e → lent_part w at e ≡ part_in c w x
+pub lent : (c x : ℕ) {at e : ℕ} (w : List ℕ) → at ≡ place_of c x → e ≡ place_of c x + page_size c → lent_part w at e ≡ part_in c w x
 unfolding part_in
-lent w i = rw (span_size i, i.begins)
+lent c x w a z = rw (span_size c x a z, a)
 
 -- the memory with other bytes for those that were lent
 abbrev pub lent_back : List ℕ → ℕ → ℕ → List ℕ → List ℕ
@@ -42,9 +42,9 @@ pub rewritten
     → lent_back w at e t ≡ with_page c w x (f c (page_in c w x))
 unfolding with_page page_in
 rewritten {w} {c} {x} f t o i l h =
-    let s = lent w i in
+    let s = lent c x w i.begins i.ends in
     let size : length t ≡ page_size c = rw s at l ∙ part_length o in
-    rw (span_size i, i.begins) (over_part w t (place_of c x) (page_size c) size (part_fits o))
+    rw (span_size c x i.begins i.ends, i.begins) (over_part w t (place_of c x) (page_size c) size (part_fits o))
     ∙ ap (over w (place_of c x)) (rw (s, part_room o) at h)
 
 -- ---- the same for a page that is cut out of a copy: w' is w with a copy of page x in the place of a later page y
@@ -61,13 +61,13 @@ pub copied
     → w' ≡ over w (place_of c y) (part_in c w x)
 copied {w} {c} {x} {y} o h i k =
     k
-    ∙ rw (lent w i, span_size i, append_assoc)
+    ∙ rw (lent c x w i.begins i.ends, span_size c x i.begins i.ends, append_assoc)
     (rw drop-drop at (over_part w (part_in c w x) (place_of c y) (page_size c) (part_length (page-before o h)) (part_fits o)))
 
 module _ {w w' : List ℕ} {c x y at e : ℕ} (o : Within w c y) (h : x < y) (k : w' ≡ over w (place_of c y) (part_in c w x)) (i : Stands c y at e) where
   pub lent_copy : lent_part w' at e ≡ part_in c w x
   lent_copy =
-      lent w' i
+      lent c y w' i.begins i.ends
       ∙ rw k (unfold part_in in part_over w (part_in c w x) (place_of c y) (page_size c) (part_length (page-before o h)) (part_fits o))
 
   pub rewritten_copy
@@ -83,5 +83,5 @@ module _ {w w' : List ℕ} {c x y at e : ℕ} (o : Within w c y) (h : x < y) (k 
       let long : length w' ≡ length w = ap length k ∙ length_over w (place_of c y) (part_in c w x) in
       let fits : place_of c y + page_size c ≤ length w' = omega (arith, part_fits o) in
       let over_copy : over w' (place_of c y) t ≡ over w (place_of c y) t = rw k (over_again (part_in c w x) t w (place_of c y) (omega (arith, part_length b))) in
-      rw (span_size i, i.begins)
+      rw (span_size c y i.begins i.ends, i.begins)
       (over_part w' t (place_of c y) (page_size c) size fits ∙ over_copy ∙ ap (over w (place_of c y)) (rw (s, part_room b) at m))

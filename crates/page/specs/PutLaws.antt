@@ -1,7 +1,7 @@
 -- One record more among a page's: its place, the higher records moved up by one, and the bytes once it is written.
 use Rattle.std.specs.Prelude.{◌≡◌, refl, List, [], ◌∷◌, ◌++◌, ℕ, suc, ◌+◌, ◌-◌, ◌*◌, ◌≤◌, ◌<◌, length, take, drop}
 use Rattle.std.specs.List.{copy_within}
-use Rattle.std.proofs.Common.{sym, ap, ◌∙◌, append_assoc, arith, take_at, drop_at, lt-ltb, le-ltb}
+use Rattle.std.proofs.Common.{sym, ap, ◌∙◌, append_assoc, inl, arith, take_at, drop_at, lt-ltb, le-ltb}
 use Rattle.spec.specs.declared.Rec.{Rec}
 use Rattle.spec.specs.Basics.{each}
 use Rattle.spec.specs.Bytes.{byte}
@@ -12,11 +12,11 @@ use Rattle.laws.specs.Tools.{if-true, if-false, if_both}
 use Rattle.laws.specs.Codec.Parts.{each_join}
 use Rattle.laws.specs.Codec.Sections.{length_record, length-records}
 use Rattle.wire.specs.Over.{over}
-use Rattle.wire.specs.OverLaws.{over-over, over_swap, over_parts}
+use Rattle.wire.specs.OverLaws.{over_none, over-over, over_swap, over_parts}
 use Rattle.wire.specs.Parts.{part_over}
-use Rattle.page.specs.View.{records_from, records-length, left_join}
+use Rattle.page.specs.View.{record_at, records_from, records-length, left_more, left_none, left_join}
 use Rattle.page.specs.Put.{place_in}
-use Rattle.page.specs.ImageLaws.{owns}
+use Rattle.page.specs.ImageLaws.{record_other, owns}
 
 pub place_none : (k : ℕ) → place_in [] k ≡ 0
 unfolding place_in
@@ -51,6 +51,17 @@ in_front s i r rs =
 -- the records from number j up to number n, written one higher
 abbrev pub up : List ℕ → ℕ → ℕ → List ℕ
 up s j n = over s (page_size (j + 1)) (each record_bytes (records_from s j (n - j)))
+
+pub up_none : (s : List ℕ) (n : ℕ) → up s n n ≡ s
+unfolding each
+up_none s n = rw (left_none s n n (omega arith)) (over_none s (page_size (n + 1)))
+
+-- one more of them: number k, which is j - 1
+pub up_before : (s : List ℕ) (k j n : ℕ) → j ≡ k + 1 → record_at (up s j n) k ≡ record_at s k
+up_before s k j n e = record_other s _ _ k (inl (omega arith))
+
+pub up_more : (s : List ℕ) (k j n : ℕ) → j ≡ k + 1 → k < n → over (up s j n) (page_size j) (record_bytes (record_at s k)) ≡ up s k n
+up_more s k j n e l = rw (e, left_more s k n l) (in_front s (k + 1) (record_at s k) (records_from s (k + 1) (n - (k + 1))))
 
 -- as they stand, one behind another
 stood : (s : List ℕ) (i n : ℕ) → ((k : ℕ) → byte s k < 256) → page_size (i + n) ≤ length s → take (8 * n) (drop (page_size i) s) ≡ each record_bytes (records_from s i n)

@@ -1,6 +1,8 @@
 // "A job reader keeps the lent bytes beside its counts, and shows each section as that part of them": nothing is copied, and nothing is written.
 #![tactic(auto)]
 
+mod plain;
+
 ghost use Rattle.std.specs.Prelude.{◌≡◌, [], ◌+◌, ◌-◌, ◌*◌, ◌/◌, ◌^◌, ◌≤◌, ◌<◌, length, get_or, None, Some};
 ghost use Rattle.spec.specs.Basics.{if};
 ghost use Rattle.spec.specs.Job.{op_size, turn_size, page_size, kind_of};
@@ -12,22 +14,22 @@ ghost use Rattle.reader.specs.Parts.{directory_in, table_in, ops_in, turns_in, o
 use header::Header;
 use spec::{Kind, Op};
 
-// The bytes of a job, and their header: rows 1 to 4 of the refusal table have passed.
+// The bytes of a job, and counts beside them, which need not be those of its header.
 #[derive(Clone, Copy)]
 pub struct Reader<'a> {
+    pub job: &'a [u8],
+    pub header: Header,
+}
+
+// A reader of which rows 1 to 4 of the refusal table have passed: the counts are those of the job's header, and the bytes have all sections.
+#[derive(Clone, Copy)]
+pub struct Headed<'a> {
     pub job: &'a [u8],
     pub header: Header,
     pub ghost heads: { Heads header job.now },
 }
 
-impl<'a> Reader<'a> {
-    pub fn new(job: &'a [u8], header: Header) -> Reader<'a>
-        requires { Heads header job.now }
-        ensures { (result.job ≡ job.entry) × (result.header ≡ header) }
-    {
-        Reader { job, header }
-    }
-
+impl<'a> Headed<'a> {
     // ---- the four sections. (A function for each: where it begins and ends are two formulas of the document, and what it is has a definition of its own.)
 
     #[tactic(auto, using(crate::specs::PartLaws::in_order), unfolding(crate::specs::Parts::directory_in))]

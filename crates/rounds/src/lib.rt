@@ -7,7 +7,7 @@ ghost use Rattle.spec.specs.Deal.{max_dealt};
 ghost use Rattle.rounds.specs.OnTable.{dealing, give_to, Gives, round_on, rounds_on, GivesAll};
 
 use header::Header;
-use reader::Reader;
+use reader::{Headed, Reader};
 use turn::Row;
 
 // ---- one operation
@@ -18,7 +18,7 @@ use turn::Row;
 fn give(
     rows: &mut [Row],
     i: usize,
-    reader: Reader,
+    reader: Headed,
     t: usize,
     out: &mut [u8],
     work: &mut [u8],
@@ -39,7 +39,7 @@ fn give(
 // ---- rounds
 
 // A round, "by rising operation number", when t turns are dealt. How many are dealt then.
-fn round(rows: &mut [Row], reader: Reader, t: usize, out: &mut [u8], work: &mut [u8]) -> usize
+fn round(rows: &mut [Row], reader: Headed, t: usize, out: &mut [u8], work: &mut [u8]) -> usize
     requires { GivesAll reader.header reader.job.now (dealing rows.old out.old work.old t) }
     ensures { dealing rows.new out.new work.new result ≡ round_on reader.entry.header reader.entry.job.now (dealing rows.old out.old work.old t) }
 {
@@ -59,7 +59,7 @@ pub fn rounds(rows: &mut [Row], job: &[u8], h: Header, out: &mut [u8], work: &mu
     if h.ops == 0 {
         return 0;
     }
-    let reader = Reader::new(job, h);
+    let reader = Reader::new(job, h).headed();
     let mut n = 0;
     loop {
         let t = n;

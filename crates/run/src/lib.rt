@@ -16,7 +16,7 @@ ghost use Rattle.run.specs.Call.{lengths, lent, Accepted, Ran, Settled};
 
 use header::Header;
 use memory::Shape;
-use reader::Reader;
+use reader::Headed;
 use spec::{Reason, Refusal};
 use turn::Row;
 
@@ -64,7 +64,7 @@ pub fn small_for(h: Header, size: usize, lent: Lent) -> Option<usize>
 }
 
 // 11 output: "result buffer under 24 + 12m + the charge file's length (place 0)"
-fn small_output(reader: Reader, lent: Lent) -> Option<usize>
+fn small_output(reader: Headed, lent: Lent) -> Option<usize>
     ensures { result ≡ small_output (lengths lent) reader.entry.job.now }
 {
     let h = reader.header;
@@ -73,7 +73,7 @@ fn small_output(reader: Reader, lent: Lent) -> Option<usize>
 }
 
 // "11 comes last": every row of the refusal table. A job that meets none comes back as its reader.
-fn check_all(job: &[u8], lent: Lent) -> Result<Reader<'_>, Refusal>
+fn check_all(job: &[u8], lent: Lent) -> Result<Headed<'_>, Refusal>
     ensures fault { fault_in result ≡ first_fault (lengths lent) job.now }
     ensures read { IfOk result (λ r. r.job ≡ job.entry) }
 {
@@ -96,7 +96,7 @@ pub fn shape_of(h: Header) -> Shape
 }
 
 // What turns begin with: "The turn list starts from the file as it came in, no page locked", and every row stands "for an operation not begun".
-pub fn start(reader: Reader, rows: &mut [Row], work: &mut [u8])
+pub fn start(reader: Headed, rows: &mut [Row], work: &mut [u8])
     requires { work_size ≤ length work.old }
     ensures rows { rows.new ≡ replicate (length rows.old) blank_row }
     ensures work { work.new ≡ loaded work.old (directory_in (counts_of reader.entry.header) reader.entry.job.now) (table_in (counts_of reader.entry.header) reader.entry.job.now) reader.entry.header.capacity reader.entry.header.used }
@@ -120,7 +120,7 @@ pub fn clear(rows: &mut [Row], work: &mut [u8])
 }
 
 // Every turn of the job.
-fn take_turns(reader: Reader, rows: &mut [Row], work: &mut [u8])
+fn take_turns(reader: Headed, rows: &mut [Row], work: &mut [u8])
     requires { (k : ℕ) → k < length (turns_in (counts_of reader.header) reader.job.now) / 2 → Takes (shape_for reader.header) (ops_in (counts_of reader.header) reader.job.now) (turns_in (counts_of reader.header) reader.job.now) k (all_turns reader.header reader.job.now k (both rows.old work.old)) }
     ensures { both rows.new work.new ≡ all_turns reader.entry.header reader.entry.job.now (length (turns_in (counts_of reader.entry.header) reader.entry.job.now) / 2) (both rows.old work.old) }
 {
@@ -134,7 +134,7 @@ fn take_turns(reader: Reader, rows: &mut [Row], work: &mut [u8])
 }
 
 // "A job that meets no row below is run": from the file as it came in to the result; then what was lent is cleared.
-fn run_accepted(reader: Reader, res: &mut [u8], rows: &mut [Row], work: &mut [u8]) -> usize
+fn run_accepted(reader: Headed, res: &mut [u8], rows: &mut [Row], work: &mut [u8]) -> usize
     requires { Accepted reader.job.now res.old rows.old work.old }
     ensures { Ran reader.entry.job.now res.old res.new rows.old rows.new work.old work.new result }
 {

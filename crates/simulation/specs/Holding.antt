@@ -19,7 +19,7 @@ use Rattle.spec.specs.File.{Page, page_at, entry_at, is_not, without, found_of}
 use Rattle.spec.specs.Job.{no_op}
 use Rattle.spec.specs.Split.{digit, added, all_share, split_count}
 use Rattle.spec.specs.State.{State, Move, go_lock}
-use Rattle.spec.specs.Turn.{home_of, rec_of, plan_of, new_count, cleared, placed, decided, decided_at, written, verified, held_turn, turn}
+use Rattle.spec.specs.Turn.{home_of, rec_of, plan_of, new_count, cleared, placed, decided, decided_at, struck, written, verified, held_turn, turn}
 use Rattle.spec.specs.Run.{row_of}
 use Rattle.spec.specs.Proper.{PageNo, In}
 use Rattle.laws.specs.Tools.{if_both, if_ap, filter-le}
@@ -31,7 +31,7 @@ use Rattle.laws.specs.Turns.Work.{WorkTask}
 use Rattle.memory.specs.Memory.{lock_in, with_locks, turn_in}
 use Rattle.turn.specs.declared.Row.{Row}
 use Rattle.turn.specs.Rows.{row_image, moved}
-use Rattle.turn.specs.Steps.{Out, out, mem_lock, mem_verified, mem_refused, mem_taken, mem_full, mem_placed, mem_at_charge, mem_decided, mem_decided_at, mem_written, mem_held, mem_turn}
+use Rattle.turn.specs.Steps.{Out, out, mem_lock, mem_verified, mem_refused, mem_taken, mem_full, mem_placed, mem_at_charge, mem_decided, mem_decided_at, mem_struck, mem_written, mem_held, mem_turn}
 use Rattle.simulation.specs.Shown.{shape_of, Shown}
 use Rattle.simulation.specs.RowBack.{told}
 use Rattle.simulation.specs.Steady.{Steady}
@@ -113,6 +113,11 @@ module _ (ops : List Op) (s : State) (i : ℕ) (w : List ℕ) (st : Steady ops s
   on_decide x Delete (Some c) n e =
       rw (← if_ap (λ (a : Row). out a w))
       (if_both Does (λ a. goes_on ops s i w st h _) (λ a. tells ops s i w st h _ differs c.charge x s.now))
+
+  -- a delete's answer, by what it finds
+  struck_is : (x : ℕ) (o : Option Rec) → mem_struck s.now r (found_of x o) ≡ told (moved r (Held x Unlock)) (struck s.now (found_of x o))
+  unfolding told
+  struck_is x o = refl
 
   -- the page is written
   on_write

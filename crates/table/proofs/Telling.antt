@@ -1,13 +1,14 @@
--- The rows told one after another: none, and one row more; and the count of those under way stays small.
+-- The rows told one after another: none, and one row more; the buffers keep their lengths, and the count of those under way stays small.
 use mathlib.Core.Path.{◌≡◌, refl, sym, ap, ◌∙◌, subst}
 use mathlib.Core.Bool.{Bool, true, false}
 use mathlib.Core.List.{List}
 use Prim.Native.Nat.{ℕ, zero, suc, ◌+◌, ◌≤◌}
 use native.Mathlib.Numerals.{add-one}
 use native.Mathlib.Omega.{arith}
-use lib.ListN.{get_or}
+use lib.ListN.{length, get_or}
 use mir.Val.{bool_byte}
 use Rattle.spec.specs.Split.{digit}
+use Rattle.wire.specs.OverLaws.{length_over}
 use Rattle.turn.specs.declared.Row.{Row}
 use Rattle.turn.specs.Rows.{blank_row}
 use Rattle.result.specs.Marks.{begun_number, with_answer, with_mark}
@@ -19,6 +20,17 @@ pub counted : (t : Bool) {v n : ℕ} → v ≡ bool_byte t → digit t ≡ n →
 unfolding digit
 counted true e h = e ∙ h
 counted false e h = e ∙ h
+
+abbrev pub Same : Told → Told → Type 0
+Same u v = (length u.result ≡ length v.result) × (length u.work ≡ length v.work)
+
+pub lengths : (rows : List Row) (k : ℕ) (u : Told) → Same (tell_rows rows k u) u
+unfolding tell_rows tell_row with_answer with_mark
+lengths rows zero u = (refl, refl)
+lengths rows (suc k) u =
+    let v = tell_rows rows k u in
+    let h = lengths rows k u in
+    (length_over v.result _ _ ∙ h.0, length_over v.work _ _ ∙ h.1)
 
 pub under_small : (rows : List Row) (k : ℕ) (s w : List ℕ) → (tell_rows rows k (told s w 0)).under ≤ k
 unfolding tell_rows tell_row

@@ -2,4 +2,5 @@
 pub mod Added
 -- laws for callers' proofs
 pub mod AddedLaws
+pub mod Chain
 pub mod Sections

@@ -1,7 +1,7 @@
 -- A section that is read part by part: the part that is taken next, what is lent of the bytes, what one part more adds to the text.
 use Rattle.std.specs.Prelude.{◌≡◌, refl, List, [], ◌∷◌, ◌++◌, map, ℕ, zero, suc, ◌+◌, ◌-◌, ◌*◌, ◌/◌, ◌≤◌, ◌<◌, length, get_or, take, drop}
 use Rattle.std.proofs.Math.Seq.{drop-append_seam, take-append_seam}
-use Rattle.std.proofs.Common.{sym, ap, ◌∙◌, length-append, mul-zero, mul_comm, add-one, arith, length-drop, drop-drop}
+use Rattle.std.proofs.Common.{sym, ap, ◌∙◌, length-append, mul-zero, mul_comm, mul-le-mul_left, add-one, arith, length-drop, take_all, drop-drop}
 use Rattle.std.proofs.lemmas.List.{map-append, drop-take, take-take}
 use Rattle.std.proofs.Math.Nat.{add-sub_cancel_left, le-div_iff_mul-le, mul-div_cancel_left}
 use Rattle.spec.specs.Basics.{each}
@@ -9,9 +9,21 @@ use Rattle.spec.specs.Bytes.{parts}
 use Rattle.laws.specs.Codec.Parts.{each_snoc, next_place, part_at}
 use Rattle.wire.specs.Parts.{length_part}
 
--- the place behind one part more
-one_more : (size i : ℕ) → size * (i + 1) ≡ size * i + size
+-- places: the next part, and a part that lies within
+pub one_more : (size i : ℕ) → size * (i + 1) ≡ size * i + size
 one_more size i = omega arith
+
+pub inside : (size i n : ℕ) → i < n → size * i + size ≤ size * n
+inside size i n h =
+    let next : i + 1 ≤ n = omega arith in
+    omega (arith, one_more size i, mul-le-mul_left size next)
+
+-- a part that is lent: n bytes from a place on, and all from a place on
+pub lent : (s : List ℕ) (a n : ℕ) → take (a + n - a) (drop a s) ≡ take n (drop a s)
+lent s a n = rw (add-sub_cancel_left a n)
+
+pub lent_rest : (s : List ℕ) (a : ℕ) → take (length s - a) (drop a s) ≡ drop a s
+lent_rest s a = take_all (length s - a) (drop a s) (omega (arith, length-drop a s))
 
 -- n parts of `size` bytes each were taken from the front of s, and `rest` is behind them
 pub record Taken (size n : ℕ) (s rest : List ℕ) : Type 0 where
@@ -52,18 +64,15 @@ parts_front (suc n) size b =
     rw (next_place size n, drop-take size (size * n) b, parts_front n size (drop size b), take-take size (size + size * n) b (omega arith))
 
 module _ (s : List ℕ) (a size n : ℕ) (some : 0 < size) (within : a + size * n ≤ length s) where
-  lent : take (a + size * n - a) (drop a s) ≡ take (size * n) (drop a s)
-  lent = rw (add-sub_cancel_left a (size * n))
-
   pub count_lent : length (take (a + size * n - a) (drop a s)) / size ≡ n
-  count_lent = rw (lent, length_part s a (size * n) within) (mul-div_cancel_left n some)
+  count_lent = rw (lent s a (size * n), length_part s a (size * n) within) (mul-div_cancel_left n some)
 
   pub parts_lent : parts (length (take (a + size * n - a) (drop a s)) / size) size (take (a + size * n - a) (drop a s)) ≡ parts n size (drop a s)
-  parts_lent = rw (count_lent, lent) (parts_front n size (drop a s))
+  parts_lent = rw (count_lent, lent s a (size * n)) (parts_front n size (drop a s))
 
   pub part_lent : (k : ℕ) → k < n → take size (drop (size * k) (take (a + size * n - a) (drop a s))) ≡ take size (drop (size * k) (drop a s))
   part_lent k h =
-      rw (lent)
+      rw (lent s a (size * n))
       (sym (part_at n size (take (size * n) (drop a s)) k h)
       ∙ ap (λ (ps : List (List ℕ)). get_or ps k []) (parts_front n size (drop a s))
       ∙ part_at n size (drop a s) k h)

@@ -1,9 +1,25 @@
 // Text written front to back into a lent buffer.
 #![tactic(auto)]
 
-ghost use Rattle.std.specs.Prelude.{◌≡◌, [], ◌∷◌, ◌++◌, ◌≤◌, ◌+◌, length};
+ghost use Rattle.std.specs.Prelude.{◌≡◌, ◌++◌, ◌≤◌, ◌+◌, length};
 ghost use Rattle.spec.specs.Report.{decimal};
+ghost use Rattle.wire.specs.Wrote.{Wrote};
 ghost use Rattle.text.specs.Added.{Added, Room, IsIn, buffer, written};
+
+// The digits of n, from place `at` on; the place behind them. The last is written behind all the others, so no digit has to be kept meanwhile. (No
+// method of `Text`: so the place goes from call to call in a register, where a method would store and load it for each digit.)
+fn put_digits(out: &mut [u8], at: usize, n: usize) -> usize
+    requires { at + length (decimal n) ≤ length out.old }
+    ensures { Wrote (length (decimal n)) out.old at (decimal n) out.new result }
+{
+    if n < 10 {
+        out[at] = (48 + n) as u8;
+        return at + 1;
+    }
+    let last = put_digits(out, at, n / 10);
+    out[last] = (48 + n % 10) as u8;
+    last + 1
+}
 
 // The text so far is the first `len` bytes of the buffer. (Each method asks for the room that it needs. This is no
 // `fmt::Write`, whose methods answer an error: here none can come, and `report`, which cannot fail, would have one to answer.)
@@ -36,23 +52,11 @@ impl<'a> Text<'a> {
         self.len += s.len();
     }
 
-    fn byte(&mut self, b: u8)
-        requires { Room 1 self.old }
-        ensures { Added 1 (b ∷ []) self.old self.new }
-    {
-        self.out[self.len] = b;
-        self.len += 1;
-    }
-
-    // The digits of n. The last is written behind all the others, so no digit has to be kept meanwhile.
     fn digits(&mut self, n: usize)
         requires { Room (length (decimal n)) self.old }
         ensures { Added (length (decimal n)) (decimal n) self.old self.new }
     {
-        if n >= 10 {
-            self.digits(n / 10);
-        }
-        self.byte((48 + n % 10) as u8);
+        self.len = put_digits(self.out, self.len, n);
     }
 
     // A number of 64 bits has at most twenty digits.

@@ -6,7 +6,8 @@ use native.Mathlib.Nat.{zero-add}
 use native.Mathlib.Numerals.{add-one}
 use native.Mathlib.Omega.{arith}
 use lib.Pow.{pow_pos}
-use lib.ListN.{length, length-append}
+use lib.ListN.{length, take, drop, length-append}
+use lib.Seq.{take_all}
 use Rattle.spec.specs.declared.Rec.{Rec}
 use Rattle.spec.specs.Basics.{each, Each, end}
 use Rattle.spec.specs.Bytes.{AreBytes, byte}
@@ -27,7 +28,7 @@ use Rattle.laws.specs.Tidy.Merged.{merged-length, merged_each, merged-nil, merge
 use Rattle.laws.specs.Tidy.Entries.{page_on, gathered, page_from}
 use Rattle.laws.specs.Tidy.Gathered.{gathered_step, gathered_end, own_from}
 use Rattle.wire.specs.Over.{over}
-use Rattle.wire.specs.OverLaws.{over_none, over_again, length_over}
+use Rattle.wire.specs.OverLaws.{over_none, over_whole, over_again, length_over}
 use Rattle.header.specs.declared.Header.{Header}
 use Rattle.page.specs.View.{record_at, records_from, records-none, records_snoc, records-length}
 use Rattle.page.specs.Room.{room, room-size}
@@ -186,8 +187,15 @@ module _ {h : Header} {b : List ℕ} (e : Given h b) (j l : ℕ) where
   pub under_first : j + 2 ^ (h.depth - l) ≤ 2 ^ h.depth → j < 2 ^ h.depth
   under_first k = omega (arith, pow_pos (h.depth - l))
 
-  -- the file's own, of bytes p
-  pub under_own : {p : List ℕ} → j < 2 ^ h.depth → Shows h (page_on (file_of b) j) p → (page_of p).depth ≡ l → p ≡ page_bytes h.capacity (page_from (file_of b) j l)
-  under_own {p} k there deep =
+  -- the file's own, of bytes p, copied over s
+  pub under_own
+      : {p : List ℕ} (s : List ℕ)
+      → j < 2 ^ h.depth
+      → Shows h (page_on (file_of b) j) p
+      → (page_of p).depth ≡ l
+      → length s ≡ page_size h.capacity
+      → over s 0 (take (length s) (drop 0 p)) ≡ page_bytes h.capacity (page_from (file_of b) j l)
+  under_own {p} s k there deep size =
+      let n : length s ≡ length p = size ∙ sym there.size in
       let own : page_from (file_of b) j l ≡ page_on (file_of b) j = rw (← deep, there.is) (own_from (file_of b) (ok e) j (rw (depth_is e) k)) in
-      rw (own, there.written)
+      rw (take_all (length s) p (omega arith), own, there.written) (over_whole p s (sym n))

@@ -7,13 +7,18 @@ use lib.ListN.{length}
 use borrow.Author.Tests.{eq-eqb, ne_eqb}
 use Rattle.spec.specs.Outcome.{Outcome}
 use Rattle.spec.specs.Basics.{when, or_else}
-use Rattle.spec.specs.Bytes.{AreBytes}
+use Rattle.spec.specs.Bytes.{AreBytes, byte}
 use Rattle.spec.specs.Decode.{header_of, file_of}
 use Rattle.spec.specs.Check.{Fault, numbered, job_fault}
 use Rattle.spec.specs.Tidy.{tidy_bytes, ops_present, tidy_fault, tidy_outcome, tidy_buffer}
 use Rattle.laws.specs.Codec.Accepted.{file_ok}
+use Rattle.laws.specs.Codec.Numbers.{byte-lt}
 use Rattle.laws.specs.Tidy.Bytes.{joined, tidied}
+use Rattle.header.specs.declared.Header.{Header}
+use Rattle.header.specs.Counts.{counts_of}
+use Rattle.header.specs.Accepted.{accepted_heads}
 use Rattle.wire.specs.Comes.{Comes}
+use Rattle.tidy.specs.Given.{Given}
 use Rattle.tidy.specs.Call.{Settled, output_fault, file_fault}
 
 -- 18, or what is behind it
@@ -41,6 +46,11 @@ by_file room d b e = rw e
 pub by_job : (room d : ℕ) (b : List ℕ) (f : Fault) → job_fault b ≡ Some f → tidy_fault room d b ≡ Some f
 unfolding tidy_fault or_else
 by_job room d b f e = rw e
+
+-- an accepted file, with its header
+pub given : (h : Header) (b : List ℕ) → AreBytes b → job_fault b ≡ None → counts_of h ≡ header_of b → Given h b
+unfolding byte
+given h b bytes e c = record { bytes = byte-lt b bytes; accepted = e; heads = accepted_heads h b e c }
 
 -- THE CALL
 pub settled

@@ -1,33 +1,33 @@
 // How many records lie under a pattern: the difference of two numbers, since the entries of a pattern stand together.
-ghost use Rattle.std.specs.Prelude.{◌≡◌};
 ghost use Rattle.tidy.specs.Given.{Counted};
 ghost use Rattle.tidy.specs.Charge.{file_in};
 
 use crate::file::ChargeFile;
 
-// How many records lie in the pages that begin before each entry, and in all.
+// How many records lie in the pages that begin before each entry, and in all. (The array is its caller's: one that was handed over by value would be
+// copied.)
 #[derive(Drop)]
 pub struct Before<'a> {
     pub file: ChargeFile<'a>,
-    counts: [u16; 257],
-    pub ghost counted: { Counted (file_in file) counts },
+    pub counts: &'a [u16; 257],
+    pub ghost counted: { Counted (file_in file) counts.now },
 }
 
-impl<'a> Before<'a> {
-    ghost use Rattle.std.specs.Prelude.{◌^◌, ◌≤◌, ◌<◌};
-    ghost use Rattle.laws.specs.Tidy.Entries.{records_under, depth_on};
-
-    pub fn count(file: ChargeFile<'a>) -> Before<'a>
-        ensures { result.file ≡ file.entry }
-    {
-        let mut counts = [0u16; 257];
-        let mut sum: usize = 0;
-        for j in 0..file.reader.header.entries() {
-            sum += file.records_at(j);
-            counts[j + 1] = sum as u16;
-        }
-        Before { file, counts }
+// The numbers that `Before` keeps, counted into the array that is lent.
+pub fn count_records(file: ChargeFile<'_>, counts: &mut [u16; 257])
+    ensures { Counted (file_in file.entry) counts.new }
+{
+    let mut sum: usize = 0;
+    counts[0] = 0;
+    for j in 0..file.reader.header.entries() {
+        sum += file.records_at(j);
+        counts[j + 1] = sum as u16;
     }
+}
+
+impl Before<'_> {
+    ghost use Rattle.std.specs.Prelude.{◌≡◌, ◌^◌, ◌≤◌, ◌<◌};
+    ghost use Rattle.laws.specs.Tidy.Entries.{records_under, depth_on};
 
     // How many records lie under the pattern of l bits that begins entry j.
     fn under(&self, l: usize, j: usize) -> usize

@@ -2,12 +2,12 @@
 ghost use Rattle.tidy.specs.Given.{Given};
 
 use header::Header;
-use reader::Reader;
+use reader::Headed;
 
 // "A charge file is a job with no operations and no turns", and it is accepted.
 #[derive(Clone, Copy)]
 pub struct ChargeFile<'a> {
-    pub reader: Reader<'a>,
+    pub reader: Headed<'a>,
     pub ghost given: { Given reader.header reader.job.now },
 }
 

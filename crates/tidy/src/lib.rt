@@ -71,7 +71,13 @@ fn tidy_file(file: ChargeFile<'_>, depth: usize, out: &mut [u8]) -> Result<usize
     if file.reader.header.ops != 0 {
         return Err(Reason::Present.at(8));
     }
-    Left::find(file).try_write(depth, out)
+    let mut buffer = [0u8; 256];
+    let count = left::find(file, &mut buffer);
+    let left = Left {
+        file,
+        depths: &buffer[..count],
+    };
+    left.try_write(depth, out)
 }
 
 // THE CALL: any bytes, any wanted depth, and any lent output.

@@ -67,7 +67,7 @@ impl ChargeFile<'_> {
     {
         let page = self.page_on(j);
         if page::depth(page) == l {
-            out.copy_from_slice(page);
+            wire::copy(page, 0, out, 0, out.len());
         } else {
             self.put_joined(j, l, out);
         }

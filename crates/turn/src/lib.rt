@@ -45,20 +45,21 @@ impl Row {
 
     // "One turn is one step of the operation it names": the operation is handed in and comes back moved on, on turn t.
     #[tactic(auto, unfolding(crate::specs::Steps::mem_step, crate::specs::Steps::mem_turn))]
-    pub fn step(self, shape: Shape, op: Op, t: u16, work: &mut [u8]) -> Row
+    pub fn step(mut self, shape: Shape, op: Op, t: u16, work: &mut [u8]) -> Row
         requires { Safe shape op self work.old }
         ensures { out result work.new ≡ mem_step shape op t self work.old }
     {
         let turn = Turn { shape, op, now: t };
         match self.stage_now() {
-            Stage::NotBegun => self.begin(turn, work),
-            Stage::ReadPage(x) => self.read_page(turn, x, work),
-            Stage::Reread(x, u) => self.reread(turn, x, u, work),
-            Stage::Lock(x) => self.lock(x, work),
-            Stage::Held(x, task) => self.held(turn, x, task, work),
-            Stage::Split(x, b, n, part) => self.split(turn, x, b, n, part, work),
-            Stage::Done => self,
+            Stage::NotBegun => self = self.begin(turn, work),
+            Stage::ReadPage(x) => self = self.read_page(turn, x, work),
+            Stage::Reread(x, u) => self = self.reread(turn, x, u, work),
+            Stage::Lock(x) => self = self.lock(x, work),
+            Stage::Held(x, task) => self = self.held(turn, x, task, work),
+            Stage::Split(x, b, n, part) => self = self.split(turn, x, b, n, part, work),
+            Stage::Done => {}
         }
+        self
     }
 
     // A turn would do nothing for the operation: it "only waits", or is finished.

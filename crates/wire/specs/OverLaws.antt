@@ -1,9 +1,10 @@
 -- Laws of `over`: its length, what is read at the place and elsewhere, one write behind another, apart from it or over it, and parts.
-use Rattle.std.specs.Prelude.{◌≡◌, refl, List, [], ◌∷◌, ◌++◌, ℕ, suc, ◌+◌, ◌≤◌, ◌<◌, length, get_or, set, take, drop}
+use Rattle.std.specs.Prelude.{◌≡◌, refl, List, [], ◌∷◌, ◌++◌, ℕ, suc, ◌+◌, ◌/◌, ◌%◌, ◌≤◌, ◌<◌, length, get_or, set, take, drop}
 use Rattle.std.proofs.Common.{sym, ap, ◌∙◌, append_assoc, append-nil, le_of_lt, add-one, arith, set-set, drop-set-lt, take-suc, length-take-le}
 use Rattle.std.proofs.lemmas.List.Edits.{sets, sets-eq}
 use Rattle.std.proofs.Math.Seq.{length-sets, drop-length}
 use Rattle.std.proofs.lemmas.List.{set_comm}
+use Rattle.spec.specs.Bytes.{two, four}
 use Rattle.wire.specs.Over.{over}
 
 pub over_none : (s : List ℕ) (at : ℕ) → over s at [] ≡ s
@@ -25,6 +26,11 @@ pub over-over : (x y s : List ℕ) (at b : ℕ) → b ≡ at + length x → over
 unfolding over
 over-over [] y s at b e = let z : b ≡ at = omega arith in rw z
 over-over (v ∷ x) y s at b e = over-over x y (set s at v) (suc at) b (omega arith)
+
+-- a number of 4 bytes by its halves
+pub over_four : (s : List ℕ) (at v : ℕ) → over (over s at (two (v % 65536))) (at + 2) (two (v / 65536)) ≡ over s at (four v)
+unfolding four two
+over_four s at v = over-over (two (v % 65536)) (two (v / 65536)) s at (at + 2) refl
 
 -- a loop that writes y front to back, a byte a turn: i bytes are written, and then one more
 pub over_next

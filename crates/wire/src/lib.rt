@@ -77,8 +77,7 @@ pub fn put_four_u32(s: &mut [u8], at: usize, a: usize, b: usize, c: usize, d: us
     put_all::<4>(s, at, &[a, b, c, d]);
 }
 
-// n zeros. (`clear` and `copy` are functions, each over a method of the library: `front_cleared`, `front_copied` and two edits
-// more are of what they ensure.)
+// n zeros. (`clear` is a function over a method of the library: `front_cleared` and an edit more are of what it ensures.)
 pub fn clear(s: &mut [u8], at: usize, n: usize)
     requires { at + n ≤ length s.old }
     ensures { s.new ≡ over s.old at (replicate n 0) }
@@ -86,10 +85,12 @@ pub fn clear(s: &mut [u8], at: usize, n: usize)
     s[at..at + n].fill(0);
 }
 
-// n bytes of another slice
+// n bytes of another slice. (By no `copy_from_slice`, for which a program in C would have to bring `memmove`.)
 pub fn copy(from: &[u8], a: usize, to: &mut [u8], b: usize, n: usize)
     requires { (a + n ≤ length from.now) × (b + n ≤ length to.old) }
     ensures { to.new ≡ over to.old b (take n (drop a from.now)) }
 {
-    to[b..b + n].copy_from_slice(&from[a..a + n]);
+    for i in 0..n {
+        to[b + i] = from[a + i];
+    }
 }

@@ -55,18 +55,19 @@ returns-in_err-refuses-4-clause-fault c =
     (row_next 3 over_limit _ _ c.over_limit.ensures c.in_ok-refuses-3.ensures
     (row_hit 4 wrong_offset _ _ c.wrong_offset.ensures c.in_err-refuses-4.ensures))))
 
-pub new-reader-requires : goal.new-reader-requires
-new-reader-requires c =
-    heads _ _ c.read-h.ensures (passed 1 short [] _ c.short.ensures c.in_ok-refuses.ensures)
+pub headed-reader-requires : goal.headed-reader-requires
+headed-reader-requires c =
+    rw (c.new.ensures.0, c.new.ensures.1)
+    (heads _ _ c.read-h.ensures (passed 1 short [] _ c.short.ensures c.in_ok-refuses.ensures)
     (passed 2 wrong_version [] _ c.wrong_version.ensures c.in_ok-refuses-2.ensures)
     (passed 3 over_limit [] _ c.over_limit.ensures c.in_ok-refuses-3.ensures)
-    (passed 4 wrong_offset [] _ c.wrong_offset.ensures c.in_ok-refuses-4.ensures)
+    (passed 4 wrong_offset [] _ c.wrong_offset.ensures c.in_ok-refuses-4.ensures))
 
 pub returns-in_err-refuses-5-clause-fault : goal.returns-in_err-refuses-5-clause-fault
 unfolding job_fault
 returns-in_err-refuses-5-clause-fault c =
     let p = err_from_is_err_and c.from_residual-in_err-refuses-5.result c.from_residual-in_err-refuses-5.ensures.1 in
-    let at : c.new-reader.result.job.now ≡ c.args.job.now = ap (λ r. r.now) c.new-reader.ensures.0 in
+    let at : c.headed-reader.result.job.now ≡ c.args.job.now = ap (λ r. r.now) (c.headed-reader.ensures.0 ∙ c.new.ensures.0) in
     rw (p.1, p.2)
     (row_next 1 short _ _ c.short.ensures c.in_ok-refuses.ensures
     (row_next 2 wrong_version _ _ c.wrong_version.ensures c.in_ok-refuses-2.ensures
@@ -78,7 +79,7 @@ pub returns-in_err-wrong_page-clause-fault : goal.returns-in_err-wrong_page-clau
 unfolding job_fault
 returns-in_err-wrong_page-clause-fault c =
     let p = err_from_is_err_and c.from_residual-in_err-wrong_page.result c.from_residual-in_err-wrong_page.ensures.1 in
-    let at : c.new-reader.result.job.now ≡ c.args.job.now = ap (λ r. r.now) c.new-reader.ensures.0 in
+    let at : c.headed-reader.result.job.now ≡ c.args.job.now = ap (λ r. r.now) (c.headed-reader.ensures.0 ∙ c.new.ensures.0) in
     rw (p.1, p.2)
     (row_next 1 short _ _ c.short.ensures c.in_ok-refuses.ensures
     (row_next 2 wrong_version _ _ c.wrong_version.ensures c.in_ok-refuses-2.ensures
@@ -91,7 +92,7 @@ pub invariant_of-pages : goal.invariant_of-pages
 invariant_of-pages c =
     record {
       paged = record {
-        heads = c.new-reader.result.heads;
+        heads = c.headed-reader.result.heads;
         entries = passed 5 wrong_entry [] _ c.wrong_entry.ensures c.in_ok-refuses-5.ensures;
         pages = sym c.in_ok-wrong_page.ensures;
       };
@@ -101,7 +102,7 @@ pub returns-in_err-refuses-6-clause-fault : goal.returns-in_err-refuses-6-clause
 unfolding job_fault
 returns-in_err-refuses-6-clause-fault c =
     let p = err_from_is_err_and c.from_residual-in_err-refuses-6.result c.from_residual-in_err-refuses-6.ensures.1 in
-    let at : c.new-reader.result.job.now ≡ c.args.job.now = ap (λ r. r.now) c.new-reader.ensures.0 in
+    let at : c.headed-reader.result.job.now ≡ c.args.job.now = ap (λ r. r.now) (c.headed-reader.ensures.0 ∙ c.new.ensures.0) in
     rw (p.1, p.2)
     (row_next 1 short _ _ c.short.ensures c.in_ok-refuses.ensures
     (row_next 2 wrong_version _ _ c.wrong_version.ensures c.in_ok-refuses-2.ensures
@@ -115,7 +116,7 @@ pub returns-in_err-refuses-7-clause-fault : goal.returns-in_err-refuses-7-clause
 unfolding job_fault
 returns-in_err-refuses-7-clause-fault c =
     let p = err_from_is_err_and c.from_residual-in_err-refuses-7.result c.from_residual-in_err-refuses-7.ensures.1 in
-    let at : c.new-reader.result.job.now ≡ c.args.job.now = ap (λ r. r.now) c.new-reader.ensures.0 in
+    let at : c.headed-reader.result.job.now ≡ c.args.job.now = ap (λ r. r.now) (c.headed-reader.ensures.0 ∙ c.new.ensures.0) in
     rw (p.1, p.2)
     (row_next 1 short _ _ c.short.ensures c.in_ok-refuses.ensures
     (row_next 2 wrong_version _ _ c.wrong_version.ensures c.in_ok-refuses-2.ensures
@@ -130,7 +131,7 @@ pub returns-in_err-refuses-8-clause-fault : goal.returns-in_err-refuses-8-clause
 unfolding job_fault
 returns-in_err-refuses-8-clause-fault c =
     let p = err_from_is_err_and c.from_residual-in_err-refuses-8.result c.from_residual-in_err-refuses-8.ensures.1 in
-    let at : c.new-reader.result.job.now ≡ c.args.job.now = ap (λ r. r.now) c.new-reader.ensures.0 in
+    let at : c.headed-reader.result.job.now ≡ c.args.job.now = ap (λ r. r.now) (c.headed-reader.ensures.0 ∙ c.new.ensures.0) in
     rw (p.1, p.2)
     (row_next 1 short _ _ c.short.ensures c.in_ok-refuses.ensures
     (row_next 2 wrong_version _ _ c.wrong_version.ensures c.in_ok-refuses-2.ensures
@@ -146,7 +147,7 @@ pub returns-in_err-refuses-9-clause-fault : goal.returns-in_err-refuses-9-clause
 unfolding job_fault
 returns-in_err-refuses-9-clause-fault c =
     let p = err_from_is_err_and c.from_residual-in_err-refuses-9.result c.from_residual-in_err-refuses-9.ensures.1 in
-    let at : c.new-reader.result.job.now ≡ c.args.job.now = ap (λ r. r.now) c.new-reader.ensures.0 in
+    let at : c.headed-reader.result.job.now ≡ c.args.job.now = ap (λ r. r.now) (c.headed-reader.ensures.0 ∙ c.new.ensures.0) in
     rw (p.1, p.2)
     (row_next 1 short _ _ c.short.ensures c.in_ok-refuses.ensures
     (row_next 2 wrong_version _ _ c.wrong_version.ensures c.in_ok-refuses-2.ensures
@@ -162,7 +163,7 @@ returns-in_err-refuses-9-clause-fault c =
 pub returns-clause-fault : goal.returns-clause-fault
 unfolding job_fault
 returns-clause-fault c =
-    let at : c.new-reader.result.job.now ≡ c.args.job.now = ap (λ r. r.now) c.new-reader.ensures.0 in
+    let at : c.headed-reader.result.job.now ≡ c.args.job.now = ap (λ r. r.now) (c.headed-reader.ensures.0 ∙ c.new.ensures.0) in
     row_next 1 short _ _ c.short.ensures c.in_ok-refuses.ensures
     (row_next 2 wrong_version _ _ c.wrong_version.ensures c.in_ok-refuses-2.ensures
     (row_next 3 over_limit _ _ c.over_limit.ensures c.in_ok-refuses-3.ensures

@@ -11,6 +11,7 @@ use Rattle.std.proofs.lemmas.List.{length-replicate, get_or-replicate}
 use borrow.Author.Tests.{eqb-true, eqb-false}
 use Rattle.spec.specs.declared.Rec.{Rec}
 use Rattle.spec.specs.declared.Op.{Op}
+use Rattle.spec.specs.declared.Found.{Found}
 use Rattle.spec.specs.declared.Kind.{Kind}
 use Rattle.spec.specs.declared.Kind.TheVariants.{Search, Insert, Delete}
 use Rattle.spec.specs.declared.Task.{Task}
@@ -19,11 +20,11 @@ use Rattle.spec.specs.declared.Part.{Part}
 use Rattle.spec.specs.declared.Part.TheVariants.{WriteNew, WriteEntry, UnlockNew}
 use Rattle.spec.specs.declared.Stage.{Stage}
 use Rattle.spec.specs.declared.Stage.TheVariants.{NotBegun, ReadPage, Reread, Lock, Held, Split, Done}
-use Rattle.spec.specs.File.{Page, File, zero_page, page_at, entry_at, found_of}
+use Rattle.spec.specs.File.{Page, File, zero_page, page_at, entry_at, found_of, look_into}
 use Rattle.spec.specs.Job.{no_op}
-use Rattle.spec.specs.Code.{not_yet, stored}
+use Rattle.spec.specs.Code.{not_yet, stored, deleted}
 use Rattle.spec.specs.State.{Row, State, Answer, same, Move, blank, gone, go, go_page, go_entry}
-use Rattle.spec.specs.Turn.{home_of, plan_of, goes_to, begin, looked, looked_at, reread, written, verified, old_written, held_turn, entries_from, split_turn, turn}
+use Rattle.spec.specs.Turn.{home_of, plan_of, goes_to, begin, looked, looked_at, reread, struck, written, verified, old_written, held_turn, entries_from, split_turn, turn}
 use Rattle.spec.specs.Run.{table_after, file_after, code_after, moment_after, row_after, row_of, stage_of, tick, act, step, start}
 use Rattle.spec.specs.Proper.{Fit}
 use Rattle.laws.specs.Tools.{if_case}
@@ -101,11 +102,16 @@ module _ (s : State) (op : Op) (r : Row) where
   decided_tells n h (to_strike e t) = record { once = inr h; code = (n, h) }
   decided_tells n h (to_split i l d u) = record { once = inr h; code = (n, h) }
 
+  struck-code : (t : ℕ) (o : Found) → code_after (struck t o) r ≡ deleted
+  unfolding code_after
+  struck-code t o = refl
+
   written_tells : (x : ℕ) (k : Kind) (q : Page) → op.kind ≡ k → NoSearch op → r.code ≡ not_yet → T (written s op x k q)
   unfolding written code_after CodeTask
   written_tells x Search q e n h = absurd (n e)
   written_tells x Insert q e n h = record { once = inr h; code = (n, λ z. omega arith) }
-  written_tells x Delete q e n h = record { once = inr h; code = (n, λ z. omega arith) }
+  written_tells x Delete q e n h =
+      record { once = inr h; code = (n, λ z. omega (arith, struck-code s.now (look_into s.file x op.call))) }
 
   old_tells : (x : ℕ) → NoSearch op → Splits s.file op r.code x → T (old_written s op x)
   unfolding old_written code_after CodeTask

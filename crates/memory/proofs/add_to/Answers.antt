@@ -8,7 +8,7 @@ pub add-requires : goal.add-requires
 add-requires c =
     let g = c.args in
     let o = c.requires.0 in
-    rw (lent g.work.now c.span.ensures, part_room o) (part_sound o (omega arith), omega (arith, part_count g.c g.work.now g.x, c.requires.1))
+    rw (lent g.c g.x g.work.now c.span.ensures.begins c.span.ensures.ends, part_room o) (part_sound o (omega arith), omega (arith, part_count g.c g.work.now g.x, c.requires.1))
 
 pub returns : goal.returns
 returns c =

@@ -4,7 +4,7 @@ use Rattle.memory.specs.Lent.{lent, rewritten}
 use Rattle.memory.proofs.remove_from.Goals as goal
 
 pub remove-requires : goal.remove-requires
-remove-requires c = rw (lent c.args.work.now c.span.ensures) (part_sound c.requires.0 c.requires.1)
+remove-requires c = rw (lent c.args.c c.args.x c.args.work.now c.span.ensures.begins c.span.ensures.ends) (part_sound c.requires.0 c.requires.1)
 
 pub returns : goal.returns
 returns c =

@@ -12,20 +12,20 @@ dealt
     : (c : After-round-n)
     → dealing c.round-n.new.rows c.round-n.new.out c.round-n.new.work c.round-n.result
     ≡ round_on c.args.h c.args.job.now (dealing c.loop-n.rows c.loop-n.out c.loop-n.work c.loop-n.n)
-dealt c = rw (c.new-reader.ensures.0, c.new-reader.ensures.1) at c.round-n.ensures
+dealt c = rw (c.headed-reader.ensures.0, c.headed-reader.ensures.1, c.new.ensures.0, c.new.ensures.1) at c.round-n.ensures
 
 pub returns-then-h-eq0 : goal.returns-then-h-eq0
 returns-then-h-eq0 c = sym (nobody c.args.h c.args.job.now max_dealt _ c.if-h-eq0.true)
 
-pub new-reader-requires : goal.new-reader-requires
-new-reader-requires c = ((c.requires 0).0 0 (omega arith)).heads
+pub headed-reader-requires : goal.headed-reader-requires
+headed-reader-requires c = rw (c.new.ensures.0, c.new.ensures.1) ((c.requires 0).0 0 (omega arith)).heads
 
 pub loop-n-init : goal.loop-n-init
 loop-n-init c = let a = c.args in begun a.h a.job.now (dealing a.rows.now a.out.now a.work.now 0)
 
 pub round-n-requires : goal.round-n-requires
 round-n-requires c =
-    rw (c.new-reader.ensures.0, c.new-reader.ensures.1, c.loop-n.invariant.here) (c.requires c.loop-n.invariant.rounds).0
+    rw (c.headed-reader.ensures.0, c.headed-reader.ensures.1, c.new.ensures.0, c.new.ensures.1, c.loop-n.invariant.here) (c.requires c.loop-n.invariant.rounds).0
 
 pub loop-n-preserved : goal.loop-n-preserved
 loop-n-preserved c =

@@ -9,7 +9,10 @@ pub returns-then-file-ne0 : goal.returns-then-file-ne0
 returns-then-file-ne0 c =
     rw c.at.ensures (comes_refused (by_ops _ _ _ (λ z. c.if-file-ne0.true (ap (λ (h : Counts). h.ops) c.args.file.given.heads.counts ∙ z))))
 
+pub invariant_of-left : goal.invariant_of-left
+invariant_of-left c = record { found = c.find-count.ensures.found }
+
 pub returns : goal.returns
 returns c =
     let none = sym (ap (λ (h : Counts). h.ops) c.args.file.given.heads.counts) ∙ c.if-file-ne0.false in
-    comes_by (by_output _ _ _ none) (rw c.find.ensures at c.try_write.ensures)
+    comes_by (by_output _ _ _ none) c.try_write.ensures

@@ -1,4 +1,4 @@
-use Rattle.std.proofs.Common.{◌≡◌, refl, sym, ap, ◌∙◌, ◌+◌, ◌-◌, length, arith}
+use Rattle.std.proofs.Common.{◌≡◌, refl, ap, ◌∙◌, ◌+◌, ◌-◌, length, arith}
 use borrow.Rule.Slice.PartMut.{put_mid}
 use Rattle.wire.specs.Over.{over}
 use Rattle.wire.specs.OverLaws.{length_over}

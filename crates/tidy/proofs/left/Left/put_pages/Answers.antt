@@ -21,6 +21,31 @@ loop-k-init c =
       written = pages-none f.reader.header.capacity (pages_left (file_in f)) (small f.given d.result.now d.ensures) c.args.table.now;
     }
 
+pub overflow_mul-at : goal.overflow_mul-at
+overflow_mul-at c =
+    let f = c.args.self.now.file in
+    let d = c.depths-left in
+    let z = c.page_size-size in
+    let s = sizes f.given d.result.now d.ensures z.result c.loop-k.k c.args.table.now z.ensures.0 c.requires (omega arith) in
+    omega (arith, s.stop, s.whole)
+
+pub overflow_add-end : goal.overflow_add-end
+overflow_add-end c =
+    let f = c.args.self.now.file in
+    let d = c.depths-left in
+    let z = c.page_size-size in
+    let s = sizes f.given d.result.now d.ensures z.result c.loop-k.k c.args.table.now z.ensures.0 c.requires (omega arith) in
+    omega (arith, s.next c.loop-k-test.true, s.whole)
+
+pub overflow_mul-size : goal.overflow_mul-size
+overflow_mul-size c =
+    let f = c.args.self.now.file in
+    let d = c.depths-left in
+    let z = c.page_size-size in
+    let ls = d.result.now in
+    let s = sizes f.given ls d.ensures z.result (length ls) c.args.table.now z.ensures.0 c.requires (omega arith) in
+    omega (arith, s.stop, s.whole)
+
 pub slice_bounds-put_page-end : goal.slice_bounds-put_page-end
 slice_bounds-put_page-end c =
     let f = c.args.self.now.file in
