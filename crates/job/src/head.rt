@@ -1,4 +1,5 @@
-// Rows 1 to 4: the header. (Rows 2 to 4 ask for its bytes themselves, and so does 4 for its limits: a `Headed` reader is what there is when they have passed.)
+// Rows 1 to 4: the header. (Rows 2 to 4 ask for its bytes themselves, and so does 4 for its limits: a `Headed` reader is what there is when they have
+// passed.)
 ghost use Rattle.std.specs.Prelude.{◌≡◌, not, ◌+◌, ◌≤◌, length, eqb};
 ghost use Rattle.spec.specs.Bytes.{long};
 ghost use Rattle.spec.specs.Job.{header_size};

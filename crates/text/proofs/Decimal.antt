@@ -46,9 +46,6 @@ decimal_large n h =
 pub length-decimal_large : (n : ℕ) → 10 ≤ n → length (decimal n) ≡ length (decimal (n / 10)) + 1
 length-decimal_large n h = rw (decimal_large n h) (length-append (decimal (n / 10)) ((48 + n % 10) ∷ []))
 
-pub small_rest : (n : ℕ) → n < 10 → n % 10 ≡ n
-small_rest n h = omega arith
-
 -- how many digits there are
 unfoldable tens : ℕ → ℕ
 tens zero = 1

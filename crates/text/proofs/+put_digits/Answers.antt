@@ -4,7 +4,7 @@ use Prim.Native.Nat.{◌+◌, ◌%◌}
 use native.Mathlib.Omega.{arith}
 use lib.ListN.{length, length-append}
 use Rattle.wire.specs.WroteLaws.{one, then, kept}
-use Rattle.text.proofs.Decimal.{decimal-small, decimal_large}
+use Rattle.text.proofs.Decimal.{decimal-small, decimal_large, length-decimal_large}
 use Rattle.text.proofs.+put_digits.Goals as goal
 
 pub bounds-out-at : goal.bounds-out-at
@@ -18,14 +18,14 @@ returns-then-n-lt10 t c =
 pub put_digits-last-requires : goal.put_digits-last-requires
 put_digits-last-requires t c =
     let n = c.args.n in
-    let e = simp length-append at (ap length (decimal_large n c.if-n-lt10.false)) in
+    let e = length-decimal_large n c.if-n-lt10.false in
     (omega arith, omega arith)
 
 pub bounds-out-last : goal.bounds-out-last
 bounds-out-last t c =
     let n = c.args.n in
     let w = c.put_digits-last.ensures in
-    let e = simp length-append at (ap length (decimal_large n c.if-n-lt10.false)) in
+    let e = length-decimal_large n c.if-n-lt10.false in
     let k = kept w in
     omega (arith, w.stop)
 
@@ -33,7 +33,7 @@ pub overflow_add-result-2 : goal.overflow_add-result-2
 overflow_add-result-2 t c =
     let n = c.args.n in
     let w = c.put_digits-last.ensures in
-    let e = simp length-append at (ap length (decimal_large n c.if-n-lt10.false)) in
+    let e = length-decimal_large n c.if-n-lt10.false in
     let k = kept w in
     omega (arith, w.stop)
 
